@@ -1,0 +1,2 @@
+pub mod Sundays
+pub mod Later

@@ -1,0 +1,4 @@
+pub mod Lines
+pub mod Cut
+pub mod Kinds
+pub mod Told

@@ -1,0 +1,5 @@
+pub mod Follow
+pub mod Openings
+pub mod Stages
+pub mod Texts
+pub mod Machines

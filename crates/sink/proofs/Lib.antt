@@ -1,0 +1,4 @@
+pub mod Cases
+pub mod Filling
+pub mod Grown
+pub mod Puts

@@ -1,0 +1,4 @@
+pub mod Logs
+pub mod Frames
+pub mod Tables
+pub mod Listings

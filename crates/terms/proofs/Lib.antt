@@ -1,0 +1,5 @@
+pub mod Changes
+pub mod Creation
+pub mod Fronts
+pub mod Openings
+pub mod Variables
