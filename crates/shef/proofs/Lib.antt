@@ -1,2 +1,5 @@
 pub mod Following
 pub mod Fields
+pub mod Moving
+pub mod Saying
+pub mod Whole

@@ -91,13 +91,13 @@ follows n None = false
 follows n (Some c) = eqb (c .number) (n + 1)
 
 -- a continuation of the message has its letters and the next number
-unfoldable pub continuesAs : Common → ℕ → Form → Bool → Piece → Bool
-continuesAs m n f v l = sameForm (m .form) f && (sameBool (m .revised) v && follows n (continuationOf (l .1)))
+unfoldable pub continuesAs : Common → ℕ → Form → Bool → List ℕ → Bool
+continuesAs m n f v line = sameForm (m .form) f && (sameBool (m .revised) v && follows n (continuationOf line))
 
 unfoldable pub continues : Common → Standing → Reached → ℕ → List Piece → Form → Bool → Piece → Moved
 continues m t p n hs f v l =
     cond (readable (l .1))
-    (cond (continuesAs m n f v l)
+    (cond (continuesAs m n f v (l .1))
     (reads m p (ownItems (m .form) (continuedItems l)) (λ q. header m t q (n + 1) (hs ++ continuedItems l)))
     (refuses (fault (Message why.Continuation) (l .0))))
     (refuses (fault (Message why.Unreadable) (l .0)))
@@ -129,24 +129,36 @@ inBody m t hs l Other = bodyLine m t hs l
 abbrev pub behind : Common → Standing → List Piece → Piece → LineKind → Moved
 behind m t hs l k = cond (isTable (m .form)) (inBody m t hs l k) (onto outside)
 
+-- in a header: a continuation goes on, and any other line leaves it
+abbrev pub inHeader : Common → Standing → Reached → ℕ → List Piece → Piece → LineKind → Moved
+inHeader m t p n hs l (Opening f v) = behind m t hs l (Opening f v)
+inHeader m t p n hs l (Continuation f v) = continues m t p n hs f v l
+inHeader m t p n hs l End = behind m t hs l End
+inHeader m t p n hs l Dotted = behind m t hs l Dotted
+inHeader m t p n hs l Other = behind m t hs l Other
+
+-- outside messages only a continuation is refused
+abbrev pub passOver : Piece → LineKind → Moved
+passOver l (Opening f v) = onto outside
+passOver l (Continuation f v) = refuses (fault (Message why.Continuation) (l .0))
+passOver l End = onto outside
+passOver l Dotted = onto outside
+passOver l Other = onto outside
+
+-- a line that is no opening
+abbrev pub inStage : Stage → Piece → LineKind → Moved
+inStage outside l k = passOver l k
+inStage skipping l k = onto skipping
+inStage (header m t p n hs) l k = inHeader m t p n hs l k
+inStage (body m t hs) l k = inBody m t hs l k
+
+-- an opening begins a message whatever the stage, and any other line acts by the stage and its kind
 abbrev pub byKind : Setting → Stage → Piece → LineKind → Moved
 byKind S σ l (Opening f v) = begins S f v l
-byKind S outside l (Continuation f v) = refuses (fault (Message why.Continuation) (l .0))
-byKind S outside l End = onto outside
-byKind S outside l Dotted = onto outside
-byKind S outside l Other = onto outside
-byKind S skipping l (Continuation f v) = onto skipping
-byKind S skipping l End = onto skipping
-byKind S skipping l Dotted = onto skipping
-byKind S skipping l Other = onto skipping
-byKind S (header m t p n hs) l (Continuation f v) = continues m t p n hs f v l
-byKind S (header m t p n hs) l End = behind m t hs l End
-byKind S (header m t p n hs) l Dotted = behind m t hs l Dotted
-byKind S (header m t p n hs) l Other = behind m t hs l Other
-byKind S (body m t hs) l (Continuation f v) = inBody m t hs l (Continuation f v)
-byKind S (body m t hs) l End = inBody m t hs l End
-byKind S (body m t hs) l Dotted = inBody m t hs l Dotted
-byKind S (body m t hs) l Other = inBody m t hs l Other
+byKind S σ l (Continuation f v) = inStage σ l (Continuation f v)
+byKind S σ l End = inStage σ l End
+byKind S σ l Dotted = inStage σ l Dotted
+byKind S σ l Other = inStage σ l Other
 
 abbrev pub next : Setting → Stage → Piece → Moved
 next S σ l = byKind S σ l (kindOf (l .1))

@@ -1,7 +1,22 @@
 // What each kind of line does in each stage.
+ghost use mathlib.Core.Bool.{true, false};
+ghost use mathlib.Core.List.{List, [], _∷_};
 ghost use mathlib.Core.Path.{_≡_};
 ghost use Prim.Native.Nat.{_+_, _<_, _^_};
-ghost use lib.ListN.{length};
+ghost use lib.ListN.{drop, length};
+ghost use Rattle.events.specs.Events.{fault};
+ghost use Rattle.events.specs.Passing.{Comes};
+ghost use Rattle.messages.specs.Models.{setting, common, reached};
+ghost use Rattle.reader.specs.Kinds.{kindOf};
+ghost use Rattle.reader.specs.Lines.{Piece, linePiece, lines as linesOf, linesAhead};
+ghost use Rattle.refusals.specs.declared.Refusal.the-variants.{Message as MessageRefused};
+ghost use Rattle.shef.specs.Machines.{headerOf, stageOf, Tied};
+ghost use Rattle.shef.specs.Stages.{begins, behind as leaves, bodyLine, byKind, came, closing, continues, continuesAs, inBody, inHeader, isTable, next, onto, outside, passOver, refuses, sameForm};
+ghost use Rattle.shef.specs.Told.{closed, told};
+ghost use Rattle.std.specs.Options.{Cases as BySome};
+ghost use Rattle.std.specs.Vec.{made, refused};
+ghost use Rattle.refusals.specs.declared.MessageRefusal.the-variants as why;
+ghost use Rattle.terms.specs.Standing.{standing};
 use crate::opening::read_opening;
 use crate::opening::station_field;
 use crate::parts::read_items;
@@ -30,14 +45,18 @@ use refusals::MessageRefusal;
 use refusals::Refusal;
 use sink::Sink;
 
-fn refuse(refusal: MessageRefusal, line: Line<'_>) -> Fault {
+fn refuse(refusal: MessageRefusal, line: Line<'_>) -> Fault
+    ensures { λ r. ⌜ r ≡ fault (MessageRefused refusal) (line .entry .place) ⌝ }
+{
     Fault {
         refusal: Refusal::Message(refusal),
         place: line.place,
     }
 }
 
-fn is_same(a: Form, b: Form) -> bool {
+fn is_same(a: Form, b: Form) -> bool
+    ensures { λ r. ⌜ r ≡ sameForm a b ⌝ }
+{
     match (a, b) {
         (Form::A, Form::A) | (Form::B, Form::B) | (Form::E, Form::E) => true,
         _ => false,
@@ -45,7 +64,10 @@ fn is_same(a: Form, b: Form) -> bool {
 }
 
 // Outside messages only a continuation is refused.
-fn pass_over(line: Line<'_>, kind: LineKind) -> Result<(), Fault> {
+fn pass_over(line: Line<'_>, kind: LineKind) -> Result<(), Fault>
+    ensures moved { λ r. ⌜ told outside r ≡ passOver (linePiece (line .entry)) kind ⌝ }
+    ensures says { λ r. ⌜ refused r (λ f. f .refusal ≡ MessageRefused why.Continuation) ⌝ }
+{
     match kind {
         LineKind::Continuation(_, _) => Err(refuse(MessageRefusal::Continuation, line)),
         _ => Ok(()),
@@ -53,7 +75,9 @@ fn pass_over(line: Line<'_>, kind: LineKind) -> Result<(), Fault> {
 }
 
 impl Open {
-    fn is_table(&self) -> bool {
+    fn is_table(&self) -> bool
+        ensures { λ r. ⌜ r ≡ isTable (now (self .entry) .message .form) ⌝ }
+    {
         match self.message.form {
             Form::B => true,
             Form::A | Form::E => false,
@@ -61,7 +85,9 @@ impl Open {
     }
 
     // The number of a line that continues the message: its letters are the same, and its number is the next.
-    fn next_number(&self, form: Form, revised: bool, line: &[u8]) -> Option<u8> {
+    fn next_number(&self, form: Form, revised: bool, line: &[u8]) -> Option<u8>
+        ensures { λ r. ⌜ BySome r (continuesAs (common (now (self .entry) .message)) (now (self .entry) .number) form revised (now (line .entry)) ≡ false) (λ n. (continuesAs (common (now (self .entry) .message)) (now (self .entry) .number) form revised (now (line .entry)) ≡ true) × (n ≡ now (self .entry) .number + 1)) ⌝ }
+    {
         let here = continuation_of(line)?;
         if is_same(self.message.form, form)
             && self.message.revised == revised
@@ -76,7 +102,10 @@ impl Open {
 }
 
 impl<'a> Machine<'a> {
-    pub(crate) fn new(text: &'a [u8]) -> Machine<'a> {
+    pub(crate) fn new(text: &'a [u8]) -> Machine<'a>
+        ensures stage { λ r. ⌜ stageOf r ≡ outside ⌝ }
+        ensures tied { λ r. ⌜ ((ls : List Piece) → Tied r ls) ⌝ }
+    {
         Machine {
             stage: Stage::Outside,
             opening: Items::none(),
@@ -96,6 +125,9 @@ impl<'a> Machine<'a> {
         sink: &mut S,
     ) -> Result<(), Fault>
         requires { ⌜ line .place + length (now (line .part)) < 2 ^ 64 ⌝ }
+        ensures cases { λ r. ⌜ Comes r (S·Sink .holds (now (sink .entry))) (S·Sink .holds (now (sink .exit))) (came (setting today (R·Rule .daylight (now (rule .entry)))) (begins (setting today (R·Rule .daylight (now (rule .entry)))) form revised (linePiece (line .entry)))) (λ _ k. k (stageOf (now (self .exit)))) ⌝ }
+        ensures tied { λ r. ⌜ made r (λ _. Tied (now (self .exit)) (linesAhead (behind .entry))) ⌝ }
+        ensures frame { λ _. ⌜ S·Sink .frame (now (sink .entry)) (now (sink .exit)) ⌝ }
     {
         if !is_readable(line.part) {
             return Err(refuse(MessageRefusal::Unreadable, line));
@@ -124,7 +156,7 @@ impl<'a> Machine<'a> {
 
     fn carry_on<S: Sink, R: Rule>(
         &mut self,
-        open: Open,
+        held: Open,
         line: Line<'a>,
         form: Form,
         revised: bool,
@@ -133,19 +165,22 @@ impl<'a> Machine<'a> {
         sink: &mut S,
     ) -> Result<(), Fault>
         requires { ⌜ line .place + length (now (line .part)) < 2 ^ 64 ⌝ }
+        ensures cases { λ r. ⌜ ((rest : List Piece) → drop (held .number) (linesAhead (now (self .entry) .lines)) ≡ (linePiece (line .entry)) ∷ rest → Comes r (S·Sink .holds (now (sink .entry))) (S·Sink .holds (now (sink .exit))) (came (setting today (R·Rule .daylight (now (rule .entry)))) (continues (common (held .message)) (standing (held .terms)) (reached (held .progress)) (held .number) (headerOf (now (self .entry)) (held .number)) form revised (linePiece (line .entry)))) (λ _ k. k (stageOf (now (self .exit))))) ⌝ }
+        ensures tied { λ r. ⌜ ((rest : List Piece) → drop (held .number) (linesAhead (now (self .entry) .lines)) ≡ (linePiece (line .entry)) ∷ rest → made r (λ _. Tied (now (self .exit)) rest)) ⌝ }
+        ensures frame { λ _. ⌜ S·Sink .frame (now (sink .entry)) (now (sink .exit)) ⌝ }
     {
         if !is_readable(line.part) {
             return Err(refuse(MessageRefusal::Unreadable, line));
         }
-        let Some(number) = open.next_number(form, revised, line.part) else {
+        let Some(number) = held.next_number(form, revised, line.part) else {
             return Err(refuse(MessageRefusal::Continuation, line));
         };
         let items = continued_items(line);
-        let progress = read_items(&open.message, open.progress, items, today, rule, sink)?;
+        let progress = read_items(&held.message, held.progress, items, today, rule, sink)?;
         self.stage = Stage::Header(Open {
             progress,
             number,
-            ..open
+            ..held
         });
         Ok(())
     }
@@ -153,37 +188,43 @@ impl<'a> Machine<'a> {
     // A body line starts from the terms of the opening; a blank one is passed over.
     fn read_body<S: Sink, R: Rule>(
         &mut self,
-        open: Open,
+        held: Open,
         line: Line<'a>,
         today: Date,
         rule: &R,
         sink: &mut S,
     ) -> Result<(), Fault>
         requires { ⌜ line .place + length (now (line .part)) < 2 ^ 64 ⌝ }
+        ensures cases { λ r. ⌜ Comes r (S·Sink .holds (now (sink .entry))) (S·Sink .holds (now (sink .exit))) (came (setting today (R·Rule .daylight (now (rule .entry)))) (bodyLine (common (held .message)) (standing (held .terms)) (headerOf (now (self .entry)) (held .number)) (linePiece (line .entry)))) (λ _ k. k (stageOf (now (self .exit)))) ⌝ }
+        ensures tied { λ r. ⌜ made r (λ _. (rest : List Piece) → Tied (now (self .exit)) rest) ⌝ }
+        ensures frame { λ _. ⌜ S·Sink .frame (now (sink .entry)) (now (sink .exit)) ⌝ }
     {
         if !is_readable(line.part) {
             return Err(refuse(MessageRefusal::Unreadable, line));
         }
-        if next_word(line.part).is_some() {
-            let (station, from) = station_field(line, 0)?;
-            let (_, rest) = line.part.split_at(from);
-            let own = Items::of_body(rest, line.place + from);
-            let header = Header::new(self.opening, self.lines, open.number);
-            let message = Message {
-                station,
-                source: Some(open.message.station),
-                ..open.message
-            };
-            read_line(
-                &message,
-                Progress::new(open.terms),
-                Merged::new(header, own),
-                today,
-                rule,
-                sink,
-            )?;
+        if !next_word(line.part).is_some() {
+            self.stage = Stage::Body(held);
+            return Ok(());
         }
-        self.stage = Stage::Body(open);
+        let (station, from) = station_field(line, 0)?;
+        let (_, rest) = line.part.split_at(from);
+        let own = Items::of_body(rest, line.place + from);
+        let header = Header::new(self.opening, self.lines, held.number);
+        let message = Message {
+            station,
+            source: Some(held.message.station),
+            ..held.message
+        };
+        let parts = Merged::new(header, own);
+        read_line(
+            &message,
+            Progress::new(held.terms),
+            parts,
+            today,
+            rule,
+            sink,
+        )?;
+        self.stage = Stage::Body(held);
         Ok(())
     }
 
@@ -197,6 +238,9 @@ impl<'a> Machine<'a> {
         sink: &mut S,
     ) -> Result<(), Fault>
         requires { ⌜ line .place + length (now (line .part)) < 2 ^ 64 ⌝ }
+        ensures cases { λ r. ⌜ (Tied (now (self .entry)) ((linePiece (line .entry)) ∷ linesAhead (behind .entry)) → Comes r (S·Sink .holds (now (sink .entry))) (S·Sink .holds (now (sink .exit))) (came (setting today (R·Rule .daylight (now (rule .entry)))) (next (setting today (R·Rule .daylight (now (rule .entry)))) (stageOf (now (self .entry))) (linePiece (line .entry)))) (λ _ k. k (stageOf (now (self .exit))))) ⌝ }
+        ensures tied { λ r. ⌜ (Tied (now (self .entry)) ((linePiece (line .entry)) ∷ linesAhead (behind .entry)) → made r (λ _. Tied (now (self .exit)) (linesAhead (behind .entry)))) ⌝ }
+        ensures frame { λ _. ⌜ S·Sink .frame (now (sink .entry)) (now (sink .exit)) ⌝ }
     {
         let kind = kind_of(line.part);
         if let LineKind::Opening(form, revised) = kind {
@@ -205,15 +249,15 @@ impl<'a> Machine<'a> {
         match self.stage {
             Stage::Skipping => Ok(()),
             Stage::Outside => pass_over(line, kind),
-            Stage::Header(open) => self.read_header(open, line, kind, today, rule, sink),
-            Stage::Body(open) => self.read_table(open, line, kind, today, rule, sink),
+            Stage::Header(held) => self.read_header(held, line, kind, today, rule, sink),
+            Stage::Body(held) => self.read_table(held, line, kind, today, rule, sink),
         }
     }
 
     // In a header a continuation goes on, and any other line leaves it.
     fn read_header<S: Sink, R: Rule>(
         &mut self,
-        open: Open,
+        held: Open,
         line: Line<'a>,
         kind: LineKind,
         today: Date,
@@ -221,10 +265,13 @@ impl<'a> Machine<'a> {
         sink: &mut S,
     ) -> Result<(), Fault>
         requires { ⌜ line .place + length (now (line .part)) < 2 ^ 64 ⌝ }
+        ensures cases { λ r. ⌜ ((rest : List Piece) → drop (held .number) (linesAhead (now (self .entry) .lines)) ≡ (linePiece (line .entry)) ∷ rest → Comes r (S·Sink .holds (now (sink .entry))) (S·Sink .holds (now (sink .exit))) (came (setting today (R·Rule .daylight (now (rule .entry)))) (inHeader (common (held .message)) (standing (held .terms)) (reached (held .progress)) (held .number) (headerOf (now (self .entry)) (held .number)) (linePiece (line .entry)) kind)) (λ _ k. k (stageOf (now (self .exit))))) ⌝ }
+        ensures tied { λ r. ⌜ ((rest : List Piece) → drop (held .number) (linesAhead (now (self .entry) .lines)) ≡ (linePiece (line .entry)) ∷ rest → made r (λ _. Tied (now (self .exit)) rest)) ⌝ }
+        ensures frame { λ _. ⌜ S·Sink .frame (now (sink .entry)) (now (sink .exit)) ⌝ }
     {
         match kind {
             LineKind::Continuation(form, revised) => self.carry_on(
-                open,
+                held,
                 line,
                 form,
                 revised,
@@ -232,14 +279,14 @@ impl<'a> Machine<'a> {
                 rule,
                 sink,
             ),
-            _ => self.leave_header(open, line, kind, today, rule, sink),
+            _ => self.leave_header(held, line, kind, today, rule, sink),
         }
     }
 
     // Behind the header a table's body begins, and any other message has ended.
     fn leave_header<S: Sink, R: Rule>(
         &mut self,
-        open: Open,
+        held: Open,
         line: Line<'a>,
         kind: LineKind,
         today: Date,
@@ -247,9 +294,12 @@ impl<'a> Machine<'a> {
         sink: &mut S,
     ) -> Result<(), Fault>
         requires { ⌜ line .place + length (now (line .part)) < 2 ^ 64 ⌝ }
+        ensures cases { λ r. ⌜ Comes r (S·Sink .holds (now (sink .entry))) (S·Sink .holds (now (sink .exit))) (came (setting today (R·Rule .daylight (now (rule .entry)))) (leaves (common (held .message)) (standing (held .terms)) (headerOf (now (self .entry)) (held .number)) (linePiece (line .entry)) kind)) (λ _ k. k (stageOf (now (self .exit)))) ⌝ }
+        ensures tied { λ r. ⌜ made r (λ _. (rest : List Piece) → Tied (now (self .exit)) rest) ⌝ }
+        ensures frame { λ _. ⌜ S·Sink .frame (now (sink .entry)) (now (sink .exit)) ⌝ }
     {
-        if open.is_table() {
-            return self.read_table(open, line, kind, today, rule, sink);
+        if held.is_table() {
+            return self.read_table(held, line, kind, today, rule, sink);
         }
         self.stage = Stage::Outside;
         Ok(())
@@ -258,7 +308,7 @@ impl<'a> Machine<'a> {
     // A line behind the header of a table: .END closes it, and no other line may have a first dot.
     fn read_table<S: Sink, R: Rule>(
         &mut self,
-        open: Open,
+        held: Open,
         line: Line<'a>,
         kind: LineKind,
         today: Date,
@@ -266,9 +316,12 @@ impl<'a> Machine<'a> {
         sink: &mut S,
     ) -> Result<(), Fault>
         requires { ⌜ line .place + length (now (line .part)) < 2 ^ 64 ⌝ }
+        ensures cases { λ r. ⌜ Comes r (S·Sink .holds (now (sink .entry))) (S·Sink .holds (now (sink .exit))) (came (setting today (R·Rule .daylight (now (rule .entry)))) (inBody (common (held .message)) (standing (held .terms)) (headerOf (now (self .entry)) (held .number)) (linePiece (line .entry)) kind)) (λ _ k. k (stageOf (now (self .exit)))) ⌝ }
+        ensures tied { λ r. ⌜ made r (λ _. (rest : List Piece) → Tied (now (self .exit)) rest) ⌝ }
+        ensures frame { λ _. ⌜ S·Sink .frame (now (sink .entry)) (now (sink .exit)) ⌝ }
     {
         match kind {
-            LineKind::Other => self.read_body(open, line, today, rule, sink),
+            LineKind::Other => self.read_body(held, line, today, rule, sink),
             LineKind::End => {
                 self.stage = Stage::Outside;
                 Ok(())
@@ -278,10 +331,12 @@ impl<'a> Machine<'a> {
     }
 
     // A table that is still open where its stretch ends is refused there.
-    pub(crate) fn close(&self, place: usize) -> Option<Fault> {
+    pub(crate) fn close(&self, place: usize) -> Option<Fault>
+        ensures { λ r. ⌜ closed r ≡ closing (stageOf (now (self .entry))) place ⌝ }
+    {
         let is_open = match self.stage {
             Stage::Outside | Stage::Skipping => false,
-            Stage::Header(open) => open.is_table(),
+            Stage::Header(held) => held.is_table(),
             Stage::Body(_) => true,
         };
         if is_open {

@@ -124,7 +124,7 @@ pub(crate) fn read_opening(
 ) -> Result<Opening, Fault>
     requires { ⌜ line .place + length (now (line .part)) < 2 ^ 64 ⌝ }
     ensures value { λ r. ⌜ mapOk openedAs r ≡ opened today form revised (linePiece (line .entry)) ⌝ }
-    ensures valid { λ r. ⌜ made r (λ o. o .start ≤ length (now (line .entry .part))) ⌝ }
+    ensures valid { λ r. ⌜ made r (λ o. (o .start ≤ length (now (line .entry .part))) × (o .message .form ≡ form)) ⌝ }
 {
     let (station, behind) = station_field(line, letters_len(line.part))?;
     let (date, behind) = date_field(line, behind, today)?;

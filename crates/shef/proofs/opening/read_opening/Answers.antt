@@ -1,4 +1,4 @@
-use mathlib.Core.Path.{_≡_, sym, ap, subst, _∙_}
+use mathlib.Core.Path.{_≡_, refl, sym, ap, subst, _∙_}
 use Prim.Native.Nat.{_≤_}
 use lib.ListN.{length}
 use Rattle.std.proofs.shelf.Results.{err-from-errBy}
@@ -22,7 +22,7 @@ returns-in-Break-station c =
     let l = linePiece (c .args .line) in
     record {
       value = ap (mapOk openedAs) (p .1 ∙ ap Err (p .2)) ∙ no-station (c .args .today) (c .args .form) (c .args .revised) l _ (c .in-Break-station .ensures tt .value ∙ ap (field why.Station stationOf l) (c .letters-len .ensures .value));
-      valid = subst (λ x. made x (λ o. o .start ≤ length (c .args .line .part .now))) (sym (p .1)) tt;
+      valid = subst (λ x. made x (λ o. (o .start ≤ length (c .args .line .part .now)) × (o .message .form ≡ c .args .form))) (sym (p .1)) tt;
     }
 
 pub returns-in-Break-date : need.returns-in-Break-date
@@ -32,7 +32,7 @@ returns-in-Break-date c =
     record {
       value = ap (mapOk openedAs) (p .1 ∙ ap Err (p .2)) ∙ no-date (c .args .today) (c .args .form) (c .args .revised) l _ (name (c .in-Continue-station .station), c .in-Continue-station .behind)
           (c .in-Continue-station .ensures tt .value ∙ ap (field why.Station stationOf l) (c .letters-len .ensures .value)) (c .in-Break-date .ensures tt .value);
-      valid = subst (λ x. made x (λ o. o .start ≤ length (c .args .line .part .now))) (sym (p .1)) tt;
+      valid = subst (λ x. made x (λ o. (o .start ≤ length (c .args .line .part .now)) × (o .message .form ≡ c .args .form))) (sym (p .1)) tt;
     }
 
 pub returns : need.returns
@@ -46,5 +46,5 @@ returns c =
     record {
       value = ap (λ t. Ok (under t)) (c .opening .ensures) ∙ opens (c .args .today) (c .args .form) (c .args .revised) l (name (c .in-Continue-station .station), c .in-Continue-station .behind) (c .in-Continue-date .date, c .in-Continue-date .behind) (c .zone-field-start .result)
           (c .in-Continue-station .ensures tt .value ∙ ap (field why.Station stationOf l) (c .letters-len .ensures .value)) (c .in-Continue-date .ensures tt .value) (c .zone-field-start .ensures .value);
-      valid = c .zone-field-start .ensures .valid;
+      valid = (c .zone-field-start .ensures .valid, refl);
     }
