@@ -38,7 +38,7 @@ fn pair(a: u8, b: u8) -> u8
 }
 
 // The number that four digits write.
-pub fn number_in(column: &[u8]) -> u16
+fn number_in(column: &[u8]) -> u16
     requires { ⌜ 4 ≤ length (now column) ⌝ }
     ensures says { λ r. ⌜ ((n : ℕ) (rest : List ℕ) → n < 10000 → digits 4 n ++ rest ≡ now (column .entry) → r ≡ n) ⌝ }
     ensures small { λ r. ⌜ r < 10000 ⌝ }
@@ -59,7 +59,7 @@ fn date_in(column: &[u8]) -> Date
 }
 
 // The observation time in fourteen columns.
-pub fn second_in(column: &[u8]) -> Option<UtcTime>
+pub(crate) fn second_in(column: &[u8]) -> Option<UtcTime>
     requires { ⌜ length (now column) ≡ 14 ⌝ }
     ensures { λ r. ⌜ ((t : Date × ℕ) → utcTime (t .0) (t .1) ≡ true → secondText t ≡ now (column .entry) → mapped moment r ≡ Some t) ⌝ }
 {
@@ -71,7 +71,7 @@ pub fn second_in(column: &[u8]) -> Option<UtcTime>
 }
 
 // The creation time in twelve columns, none where they are blank.
-pub fn minute_in(column: &[u8]) -> Option<UtcMinute>
+pub(crate) fn minute_in(column: &[u8]) -> Option<UtcMinute>
     requires { ⌜ length (now column) ≡ 12 ⌝ }
     ensures { λ r. ⌜ ((t : Option (Date × ℕ)) → found t (λ m. utcMinute (m .0) (m .1) ≡ true) → orBlank 12 (mapped minuteText t) ≡ now (column .entry) → mapped minuteOf r ≡ t) ⌝ }
 {
@@ -85,7 +85,7 @@ pub fn minute_in(column: &[u8]) -> Option<UtcMinute>
 }
 
 // The name in eight columns, none where they are blank.
-pub fn name_in(column: &[u8]) -> Option<Station>
+pub(crate) fn name_in(column: &[u8]) -> Option<Station>
     requires { ⌜ length (now column) ≡ 8 ⌝ }
     ensures { λ r. ⌜ mapped name r ≡ cond (stationText (now (column .entry))) (Some (now (column .entry))) None ⌝ }
 {
@@ -95,7 +95,7 @@ pub fn name_in(column: &[u8]) -> Option<Station>
 }
 
 // The parameter of seven signs and of four digits.
-pub fn parameter_in(code: &[u8], number: &[u8]) -> Option<Parameter>
+pub(crate) fn parameter_in(code: &[u8], number: &[u8]) -> Option<Parameter>
     requires { ⌜ length (now code) ≡ 7 ⌝ ∗ ⌜ length (now number) ≡ 4 ⌝ }
     ensures { λ r. ⌜ ((n : ℕ) → fullCode (now (code .entry)) ≡ true → durationFits (now (code .entry)) n ≡ true → digits 4 n ≡ now (number .entry) → mapped measured r ≡ Some (now (code .entry), n)) ⌝ }
 {
@@ -104,7 +104,7 @@ pub fn parameter_in(code: &[u8], number: &[u8]) -> Option<Parameter>
     parameter_from(signs, number_in(number))
 }
 
-pub fn series_in(sign: u8) -> Series
+pub(crate) fn series_in(sign: u8) -> Series
     ensures { λ r. ⌜ ((s : Series) → seriesSign s ≡ sign → r ≡ s) ⌝ }
 {
     match sign {

@@ -1,4 +1,4 @@
-// The record that a reading becomes, and its listing line.
+// The record that a reading becomes, the names of its station and source, and which records there can be.
 pub mod laws;
 pub mod record;
 pub mod series;

@@ -48,22 +48,12 @@ pub struct Fault {
 }
 
 impl MessageRefusal {
+    // The fault of this refusal at a place.
     pub fn at(self, place: usize) -> Fault
-        ensures { λ r. ⌜ (r .refusal ≡ Refusal.Message self) × (r .place ≡ place) ⌝ }
+        ensures { λ r. ⌜ r ≡ record { refusal = Refusal.Message self; place = place } ⌝ }
     {
         Fault {
             refusal: Refusal::Message(self),
-            place,
-        }
-    }
-}
-
-impl ItemRefusal {
-    pub fn at(self, place: usize) -> Fault
-        ensures { λ r. ⌜ (r .refusal ≡ Refusal.Item self) × (r .place ≡ place) ⌝ }
-    {
-        Fault {
-            refusal: Refusal::Item(self),
             place,
         }
     }

@@ -4,7 +4,6 @@ ghost use mathlib.Core.List.{List, [], _∷_};
 ghost use mathlib.Core.Path.{_≡_};
 ghost use Prim.Native.Nat.{_+_, _<_, _^_};
 ghost use lib.ListN.{drop, length};
-ghost use Rattle.events.specs.Events.{fault};
 ghost use Rattle.events.specs.Passing.{Comes};
 ghost use Rattle.messages.specs.Models.{setting, common, reached};
 ghost use Rattle.reader.specs.Kinds.{kindOf};
@@ -42,17 +41,7 @@ use reader::is_readable;
 use reader::kind_of;
 use refusals::Fault;
 use refusals::MessageRefusal;
-use refusals::Refusal;
 use sink::Sink;
-
-fn refuse(refusal: MessageRefusal, line: Line<'_>) -> Fault
-    ensures { λ r. ⌜ r ≡ fault (MessageRefused refusal) (line .entry .place) ⌝ }
-{
-    Fault {
-        refusal: Refusal::Message(refusal),
-        place: line.place,
-    }
-}
 
 fn is_same(a: Form, b: Form) -> bool
     ensures { λ r. ⌜ r ≡ sameForm a b ⌝ }
@@ -69,7 +58,7 @@ fn pass_over(line: Line<'_>, kind: LineKind) -> Result<(), Fault>
     ensures says { λ r. ⌜ refused r (λ f. f .refusal ≡ MessageRefused why.Continuation) ⌝ }
 {
     match kind {
-        LineKind::Continuation(_, _) => Err(refuse(MessageRefusal::Continuation, line)),
+        LineKind::Continuation(_, _) => Err(MessageRefusal::Continuation.at(line.place)),
         _ => Ok(()),
     }
 }
@@ -130,7 +119,7 @@ impl<'a> Machine<'a> {
         ensures frame { λ _. ⌜ S·Sink .frame (now (sink .entry)) (now (sink .exit)) ⌝ }
     {
         if !is_readable(line.part) {
-            return Err(refuse(MessageRefusal::Unreadable, line));
+            return Err(MessageRefusal::Unreadable.at(line.place));
         }
         let opening = read_opening(line, form, revised, today)?;
         let (_, rest) = line.part.split_at(opening.start);
@@ -170,10 +159,10 @@ impl<'a> Machine<'a> {
         ensures frame { λ _. ⌜ S·Sink .frame (now (sink .entry)) (now (sink .exit)) ⌝ }
     {
         if !is_readable(line.part) {
-            return Err(refuse(MessageRefusal::Unreadable, line));
+            return Err(MessageRefusal::Unreadable.at(line.place));
         }
         let Some(number) = held.next_number(form, revised, line.part) else {
-            return Err(refuse(MessageRefusal::Continuation, line));
+            return Err(MessageRefusal::Continuation.at(line.place));
         };
         let items = continued_items(line);
         let progress = read_items(&held.message, held.progress, items, today, rule, sink)?;
@@ -200,7 +189,7 @@ impl<'a> Machine<'a> {
         ensures frame { λ _. ⌜ S·Sink .frame (now (sink .entry)) (now (sink .exit)) ⌝ }
     {
         if !is_readable(line.part) {
-            return Err(refuse(MessageRefusal::Unreadable, line));
+            return Err(MessageRefusal::Unreadable.at(line.place));
         }
         if !next_word(line.part).is_some() {
             self.stage = Stage::Body(held);
@@ -326,7 +315,7 @@ impl<'a> Machine<'a> {
                 self.stage = Stage::Outside;
                 Ok(())
             }
-            _ => Err(refuse(MessageRefusal::Unfinished, line)),
+            _ => Err(MessageRefusal::Unfinished.at(line.place)),
         }
     }
 
@@ -340,10 +329,7 @@ impl<'a> Machine<'a> {
             Stage::Body(_) => true,
         };
         if is_open {
-            Some(Fault {
-                refusal: Refusal::Message(MessageRefusal::Unfinished),
-                place,
-            })
+            Some(MessageRefusal::Unfinished.at(place))
         } else {
             None
         }

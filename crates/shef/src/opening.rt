@@ -24,7 +24,6 @@ use reader::letters_len;
 use record::station::Station;
 use refusals::Fault;
 use refusals::MessageRefusal;
-use refusals::Refusal;
 use terms::terms::Terms;
 
 // A word of a line, and where in the line it begins and ends.
@@ -43,15 +42,6 @@ pub(crate) struct Opening {
     pub start: usize,
 }
 
-fn refuse(refusal: MessageRefusal, place: usize) -> Fault
-    ensures { λ r. ⌜ r ≡ record { refusal = Refusal.Message refusal; place = place } ⌝ }
-{
-    Fault {
-        refusal: Refusal::Message(refusal),
-        place,
-    }
-}
-
 // The next word of a line from an offset on.
 fn word_at<'a>(line: Line<'a>, from: usize, missing: MessageRefusal) -> Result<Found<'a>, Fault>
     requires { ⌜ from ≤ length (now (line .part)) ⌝ ∗ ⌜ line .place + length (now (line .part)) < 2 ^ 64 ⌝ }
@@ -60,7 +50,7 @@ fn word_at<'a>(line: Line<'a>, from: usize, missing: MessageRefusal) -> Result<F
 {
     let (_, rest) = line.part.split_at(from);
     let Some(word) = next_word(rest) else {
-        return Err(refuse(missing, line.place + line.part.len()));
+        return Err(missing.at(line.place + line.part.len()));
     };
     let start = from + word.lead;
     Ok(Found {
@@ -79,7 +69,7 @@ pub(crate) fn station_field(line: Line<'_>, from: usize) -> Result<(Station, usi
     let found = word_at(line, from, MessageRefusal::Station)?;
     match Station::new(found.word) {
         Some(station) => Ok((station, found.end)),
-        None => Err(refuse(MessageRefusal::Station, line.place + found.start)),
+        None => Err(MessageRefusal::Station.at(line.place + found.start)),
     }
 }
 
@@ -92,7 +82,7 @@ fn date_field(line: Line<'_>, from: usize, today: Date) -> Result<(Date, usize),
     let found = word_at(line, from, MessageRefusal::Date)?;
     match message_date(found.word, today) {
         Some(date) => Ok((date, found.end)),
-        None => Err(refuse(MessageRefusal::Date, line.place + found.start)),
+        None => Err(MessageRefusal::Date.at(line.place + found.start)),
     }
 }
 

@@ -15,7 +15,7 @@ fn nearest(denominator: u64, size: u64) -> u64
 }
 
 // The sign is put aside, so that halves go away from zero on both sides.
-pub fn convert(element: Element, amount: i64) -> i64
+pub(crate) fn convert(element: Element, amount: i64) -> i64
     requires { ⌜ Fair element ⌝ ∗ ⌜ natAbs amount < 10 ^ 12 ⌝ }
     ensures { λ r. ⌜ r ≡ converted element amount ⌝ }
 {

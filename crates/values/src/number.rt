@@ -79,7 +79,7 @@ fn size_of(number: &[u8]) -> Option<u64>
 }
 
 // The amount in ten-thousandths, with its sign.
-pub fn amount_of(number: &[u8]) -> Option<i64>
+pub(crate) fn amount_of(number: &[u8]) -> Option<i64>
     ensures value { λ r. ⌜ r ≡ amountOf (now (number .entry)) ⌝ }
     ensures small { λ r. ⌜ found r (λ z. natAbs z < 10 ^ 12) ⌝ }
 {

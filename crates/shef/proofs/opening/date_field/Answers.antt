@@ -31,6 +31,6 @@ returns-in-Some c = record {
 
 pub returns-in-None : need.returns-in-None
 returns-in-None c = record {
-  value = ap Err (c .refuse .ensures) ∙ field-bad why.Date (λ w. messageDate w (c .args .today)) (linePiece (c .args .line)) (c .args .from) (found (c .in-Continue-found .found)) (c .in-Continue-found .ensures tt .value) (c .in-None .ensures tt);
+  value = ap Err (c .at .ensures) ∙ field-bad why.Date (λ w. messageDate w (c .args .today)) (linePiece (c .args .line)) (c .args .from) (found (c .in-Continue-found .found)) (c .in-Continue-found .ensures tt .value) (c .in-None .ensures tt);
   valid = tt;
 }

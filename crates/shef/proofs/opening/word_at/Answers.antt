@@ -8,7 +8,7 @@ use Rattle.shef.proofs.opening.word_at.Needs as need
 
 pub returns-in-rest : need.returns-in-rest
 returns-in-rest c = record {
-  value = ap Err (c .refuse .ensures) ∙ word-none (c .args .missing) (linePiece (c .args .line)) (c .args .from) (c .in-rest .ensures tt .value ∙ ap firstWord (c .split-at .ensures .back));
+  value = ap Err (c .at .ensures) ∙ word-none (c .args .missing) (linePiece (c .args .line)) (c .args .from) (c .in-rest .ensures tt .value ∙ ap firstWord (c .split-at .ensures .back));
   valid = tt;
 }
 

@@ -20,7 +20,7 @@ returns-then-not-is-readable g c =
     let S = setting (c .args .today) (g .R·Rule .daylight (c .args .rule .now)) in
     let o = c .args .held in
     record {
-      cases = λ rest e. line-refused S _ (continues-unreadable (common (o .message)) (standing (o .terms)) (reached (o .progress)) (o .number) (headerOf (c .args .self .now) (o .number)) (c .args .form) (c .args .revised) (linePiece (c .args .line)) (sym (c .is-readable .ensures) ∙ c .if-not-is-readable .taken) ∙ ap refuses (sym (c .refuse .ensures))) (why.Unreadable, ap (λ x. x .refusal) (c .refuse .ensures));
+      cases = λ rest e. line-refused S _ (continues-unreadable (common (o .message)) (standing (o .terms)) (reached (o .progress)) (o .number) (headerOf (c .args .self .now) (o .number)) (c .args .form) (c .args .revised) (linePiece (c .args .line)) (sym (c .is-readable .ensures) ∙ c .if-not-is-readable .taken) ∙ ap refuses (sym (c .at .ensures))) (why.Unreadable, ap (λ x. x .refusal) (c .at .ensures));
       tied = λ rest e. tt;
       frame = g .S·Sink .ties .stays _;
     }
@@ -30,7 +30,7 @@ returns-in-rest g c =
     let S = setting (c .args .today) (g .R·Rule .daylight (c .args .rule .now)) in
     let o = c .args .held in
     record {
-      cases = λ rest e. line-refused S _ (continues-not (common (o .message)) (standing (o .terms)) (reached (o .progress)) (o .number) (headerOf (c .args .self .now) (o .number)) (c .args .form) (c .args .revised) (linePiece (c .args .line)) (sym (c .is-readable .ensures) ∙ c .if-not-is-readable .left) (c .in-rest .ensures tt) ∙ ap refuses (sym (c .refuse-in-rest .ensures))) (why.Continuation, ap (λ x. x .refusal) (c .refuse-in-rest .ensures));
+      cases = λ rest e. line-refused S _ (continues-not (common (o .message)) (standing (o .terms)) (reached (o .progress)) (o .number) (headerOf (c .args .self .now) (o .number)) (c .args .form) (c .args .revised) (linePiece (c .args .line)) (sym (c .is-readable .ensures) ∙ c .if-not-is-readable .left) (c .in-rest .ensures tt) ∙ ap refuses (sym (c .at-in-rest .ensures))) (why.Continuation, ap (λ x. x .refusal) (c .at-in-rest .ensures));
       tied = λ rest e. tt;
       frame = g .S·Sink .ties .stays _;
     }

@@ -20,7 +20,7 @@ pub returns-then-not-is-readable : need.returns-then-not-is-readable
 returns-then-not-is-readable g c =
     let S = setting (c .args .today) (g .R·Rule .daylight (c .args .rule .now)) in
     record {
-      cases = line-refused S _ (begins-unreadable S (c .args .form) (c .args .revised) (linePiece (c .args .line)) (sym (c .is-readable .ensures) ∙ c .if-not-is-readable .taken) ∙ ap refuses (sym (c .refuse .ensures))) (why.Unreadable, ap (λ x. x .refusal) (c .refuse .ensures));
+      cases = line-refused S _ (begins-unreadable S (c .args .form) (c .args .revised) (linePiece (c .args .line)) (sym (c .is-readable .ensures) ∙ c .if-not-is-readable .taken) ∙ ap refuses (sym (c .at .ensures))) (why.Unreadable, ap (λ x. x .refusal) (c .at .ensures));
       tied = tt;
       frame = g .S·Sink .ties .stays _;
     }

@@ -26,7 +26,7 @@ returns-then-not-is-readable g c =
     let S = setting (c .args .today) (g .R·Rule .daylight (c .args .rule .now)) in
     let o = c .args .held in
     record {
-      cases = line-refused S _ (body-unreadable (common (o .message)) (standing (o .terms)) (headerOf (c .args .self .now) (o .number)) (linePiece (c .args .line)) (sym (c .is-readable .ensures) ∙ c .if-not-is-readable .taken) ∙ ap refuses (sym (c .refuse .ensures))) (why.Unreadable, ap (λ x. x .refusal) (c .refuse .ensures));
+      cases = line-refused S _ (body-unreadable (common (o .message)) (standing (o .terms)) (headerOf (c .args .self .now) (o .number)) (linePiece (c .args .line)) (sym (c .is-readable .ensures) ∙ c .if-not-is-readable .taken) ∙ ap refuses (sym (c .at .ensures))) (why.Unreadable, ap (λ x. x .refusal) (c .at .ensures));
       tied = tt;
       frame = g .S·Sink .ties .stays _;
     }

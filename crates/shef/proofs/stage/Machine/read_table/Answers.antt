@@ -13,7 +13,7 @@ returns-in-rest g c =
     let S = setting (c .args .today) (g .R·Rule .daylight (c .args .rule .now)) in
     let o = c .args .held in
     record {
-      cases = line-refused S _ (in-body-refuses (common (o .message)) (standing (o .terms)) (headerOf (c .args .self .now) (o .number)) (linePiece (c .args .line)) (c .args .kind) (c .in-rest .not-Other) (c .in-rest .not-End) ∙ ap refuses (sym (c .refuse .ensures))) (why.Unfinished, ap (λ x. x .refusal) (c .refuse .ensures));
+      cases = line-refused S _ (in-body-refuses (common (o .message)) (standing (o .terms)) (headerOf (c .args .self .now) (o .number)) (linePiece (c .args .line)) (c .args .kind) (c .in-rest .not-Other) (c .in-rest .not-End) ∙ ap refuses (sym (c .at .ensures))) (why.Unfinished, ap (λ x. x .refusal) (c .at .ensures));
       tied = tt;
       frame = g .S·Sink .ties .stays _;
     }
