@@ -3,18 +3,7 @@
 use cases::Case;
 use second::Outcome;
 use std::alloc::{AllocError, Global};
-use std::fs;
 use trials::Peer;
-
-// The lists of cases, in the form that `cases` reads.
-const LISTS: [&str; 6] = [
-    "worked.txt",
-    "structure.txt",
-    "tables.txt",
-    "times.txt",
-    "settings.txt",
-    "values.txt",
-];
 
 #[derive(Clone, Copy)]
 struct First;
@@ -33,9 +22,10 @@ impl Peer for First {
 
 fn run(rt: &HostRuntime) -> anyhow::Result<()> {
     let mut sum = reporting::NONE;
-    for name in LISTS {
-        let list = fs::read_to_string(rt, name)?;
-        sum = sum.with(trials::try_list(rt, rt.alloc(), &First, list.as_str())?);
+    for at in 0..cases::LISTS {
+        if let Some(list) = cases::list(at) {
+            sum = sum.with(trials::try_list(rt, rt.alloc(), &First, list)?);
+        }
     }
     reporting::closing(rt, sum)
 }

@@ -37,17 +37,17 @@ pub record WorkedExamples : Type 0 where
   pub nearer_ahead : message_date (codes "0918") (day 2024 3 20) ≡ Some (day 2024 9 18)
   -- only the current year and the two beside it are looked at
   pub no_leap_day : message_date (codes "0229") (day 2022 6 1) ≡ None
-  pub leap-day_ahead : message_date (codes "0229") (day 2023 6 1) ≡ Some (day 2024 2 29)
+  pub leap_day_ahead : message_date (codes "0229") (day 2023 6 1) ≡ Some (day 2024 2 29)
   -- daylight time begins at 02:00 of its first day
   pub standard_time : in_utc (codes "C") (clock (day 2024 3 10) 1 59) ≡ Some (clock (day 2024 3 10) 7 59)
   pub daylight_time : in_utc (codes "C") (clock (day 2024 3 10) 2 0) ≡ Some (clock (day 2024 3 10) 7 0)
   -- steps are counted from the start, so that a day that was cut comes back
   pub start : step_of (day 2024 1 31) (codes "Z") (codes "DIM+1") 0 ≡ Some (clock (day 2024 1 31) 12 0)
-  pub cut-day : step_of (day 2024 1 31) (codes "Z") (codes "DIM+1") 1 ≡ Some (clock (day 2024 2 29) 12 0)
+  pub cut_day : step_of (day 2024 1 31) (codes "Z") (codes "DIM+1") 1 ≡ Some (clock (day 2024 2 29) 12 0)
   pub whole_day : step_of (day 2024 1 31) (codes "Z") (codes "DIM+1") 2 ≡ Some (clock (day 2024 3 31) 12 0)
   -- 1.2573 km is 0.7813 miles, and so below zero
   pub km : read_value (codes "XVIRZZZ") Si (codes "1.2573") ≡ amount (pos 7813)
   pub km_below : read_value (codes "XVIRZZZ") Si (codes "-1.2573") ≡ amount (negsuc 7812)
   -- -9999 is missing before conversion and after it
   pub missing_before : read_value (codes "TAIRZZZ") Si (codes "-9999") ≡ missing
-  pub missing-after : read_value (codes "TAIRZZZ") Si (codes "-5572.7778") ≡ missing
+  pub missing_after : read_value (codes "TAIRZZZ") Si (codes "-5572.7778") ≡ missing

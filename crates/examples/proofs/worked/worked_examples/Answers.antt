@@ -23,14 +23,14 @@ returns c =
       tie = refl;
       nearer_ahead = refl;
       no_leap_day = refl;
-      leap-day_ahead = refl;
+      leap_day_ahead = refl;
       standard_time = same_day (day 2024 3 10) 7140 28740 _ false refl (omega arith) refl refl;
       daylight_time = same_day (day 2024 3 10) 7200 25200 _ true refl (omega arith) refl refl;
       start = same_day (day 2024 1 31) 43200 43200 _ false refl (omega arith) refl refl;
-      cut-day = same_day (day 2024 2 29) 43200 43200 _ false refl (omega arith) refl refl;
+      cut_day = same_day (day 2024 2 29) 43200 43200 _ false refl (omega arith) refl refl;
       whole_day = same_day (day 2024 3 31) 43200 43200 _ false refl (omega arith) refl refl;
       km = refl;
       km_below = refl;
       missing_before = refl;
-      missing-after = refl;
+      missing_after = refl;
     }

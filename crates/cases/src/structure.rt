@@ -1,5 +1,6 @@
-Lines, kinds of line, continuations, comments, slashes and tables.
+// Lines, kinds of line, continuations, comments, slashes and tables.
 
+pub const STRUCTURE: &str = "\
 === 20240320 800 an empty text
 {.}
 ---
@@ -1033,3 +1034,4 @@ KLMO3, 2
 .END
 ---
 fault 4 at 19
+";

@@ -1,5 +1,6 @@
-The worked examples of the rules, with their outcomes.
+// The worked examples of the rules, with their outcomes.
 
+pub const WORKED: &str = "\
 === 20240320 800 a message among ordinary text
 Stages this morning:
 .A KLMO3 0310 Z DH07/HG 2.5/PP T
@@ -396,3 +397,4 @@ KLMO3 2
 .END
 ---
 KLMO3 20240310120000 202403101300 HGIRZZZ 0000 6.5617 Z 0 0 BAKED
+";

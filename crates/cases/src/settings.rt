@@ -1,5 +1,6 @@
-Creation times, moves, variable durations and units.
+// Creation times, moves, variable durations and units.
 
+pub const SETTINGS: &str = "\
 === 20240320 800 creation DC031013
 .A KLMO3 0310 Z DC031013/HG 1
 ---
@@ -575,3 +576,4 @@ fault 6 at 16
 .A KLMO3 0310 Z DU S/PP 1
 ---
 fault 6 at 16
+";

@@ -1,5 +1,6 @@
-Tables, series and room.
+// Tables, series and room.
 
+pub const TABLES: &str = "\
 === 20240320 800 header items act once a line
 .B BAKED 0310 Z DH06/HG/DH12/DUS/HG
 KLMO3 2/2
@@ -345,3 +346,4 @@ fault 14 at 50
 KLMO3 20240310120000 - HGIRZZZ 0000 2.0000 Z 0 0 -
 KLMO3 20240310120000 - HGIRZZZ 0000 3.0000 Z 0 0 -
 fault 3 at 26
+";

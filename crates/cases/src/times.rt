@@ -1,5 +1,6 @@
-Dates, zones, daylight and time items.
+// Dates, zones, daylight and time items.
 
+pub const TIMES: &str = "\
 === 20240320 800 date 0310 near 20240320
 .A KLMO3 0310 HG 1
 ---
@@ -816,3 +817,4 @@ fault 6 at 16
 .A KLMO3 0310 Z DW/HG 1
 ---
 fault 6 at 16
+";

@@ -1,5 +1,6 @@
-Codes, elements, conversion and values.
+// Codes, elements, conversion and values.
 
+pub const VALUES: &str = "\
 === 20240320 800 code HG
 .A KLMO3 0310 Z HG 1
 ---
@@ -962,3 +963,4 @@ fault 7 at 16
 .A KLMO3 0310 Z HG 2 'gauge'
 ---
 fault 10 at 16
+";
