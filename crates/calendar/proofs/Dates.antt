@@ -1,11 +1,11 @@
 -- Real dates, the order of their numbers and the day after.
-use Rattle.std.proofs.Common.{◌≡◌, ℕ, zero, suc, ◌+◌, ◌-◌, ◌*◌, ◌/◌, ◌%◌, ◌<◌, ◌≤◌, Bool, true, false, cond, not, ◌&&◌, ◌||◌, eqb, ltb, leb, ◌⊎◌, Some, None, Option, sym, refl, ap, ◌∙◌, subst, inl, inr, ⊎_elim, add-one, arith}
+use Rattle.std.proofs.Common.{◌≡◌, ℕ, zero, suc, ◌+◌, ◌-◌, ◌<◌, ◌≤◌, true, ◌&&◌, ltb, leb, ◌⊎◌, Some, None, sym, refl, ap, ◌∙◌, subst, inl, inr, add-one, arith}
 use Rattle.std.proofs.lemmas.Bool.{cases_lt, leb-true, le-leb, and_parts, and_from, cond-true, cond-false, cond_both, ltb-true, ltb-false, cases_Bool, cases_order, and_cases, and_left, and_right, leb-false, lt-leb}
 use Rattle.std.proofs.lemmas.Bool.Decides.{nat_tests}
 use Rattle.calendar.specs.declared.date.Date.{Date}
 use Rattle.calendar.specs.Dates.{year_length, month_length, years_before, months_before, real, number, next_day, day_after, date_of}
 use Rattle.calendar.specs.Numbers.{earlier, DayNumbers}
-use Rattle.calendar.proofs.Counting.{closed, years_closed, years_up, months_up, months_all, month_bounds}
+use Rattle.calendar.proofs.Counting.{years_closed, years_up, months_up, months_all, month_bounds}
 
 pub record Real (d : Date) : Type 0 where
   pub year : d.year ≤ 9999

@@ -1,11 +1,10 @@
 -- The nearest of the candidates.
-use Rattle.std.proofs.Common.{◌≡◌, ℕ, ◌+◌, ◌-◌, ◌*◌, ◌<◌, ◌≤◌, Bool, true, false, cond, ◌&&◌, eqb, leb, ◌⊎◌, List, length, Some, None, Option, sym, refl, ap, ◌∙◌, subst, inl, inr, arith}
+use Rattle.std.proofs.Common.{◌≡◌, ℕ, ◌+◌, ◌-◌, ◌*◌, ◌≤◌, true, ◌&&◌, eqb, leb, ◌⊎◌, List, length, Some, None, Option, sym, refl, ap, ◌∙◌, subst, inl, inr, arith}
 use Rattle.std.proofs.lemmas.Bool.{cases_lt, cond_both, and_parts, leb-true, leb-false, both_ways}
-use Rattle.std.proofs.lemmas.Bool.Decides.{nat_tests}
 use Rattle.calendar.specs.declared.date.Date.{Date}
 use Rattle.calendar.specs.Dates.{real, number, message_day}
 use Rattle.calendar.specs.Ways.{and_then}
-use Rattle.calendar.specs.Messages.{apart, full_year, candidate, nearer, nearest_date, pair_at, month_day, year_month_day, whole_date, message_date}
+use Rattle.calendar.specs.Messages.{apart, full_year, candidate, nearer, nearest_date, pair_at, whole_date, message_date}
 use Rattle.calendar.specs.Nearest.{Candidate, Preferred, Nearest, MessageDates}
 use Rattle.calendar.proofs.Dates.{real_parts, by_year, same_date}
 

@@ -1,5 +1,5 @@
 -- Where moves land.
-use Rattle.std.proofs.Common.{◌≡◌, ℕ, zero, suc, ◌+◌, ◌-◌, ◌*◌, ◌/◌, ◌%◌, ◌<◌, ◌≤◌, min, Bool, true, false, cond, leb, ◌⊎◌, ℤ, pos, negsuc, ◌+ℤ◌, ◌*ℤ◌, Some, None, Option, sym, refl, ap, ◌∙◌, subst, inl, inr, arith}
+use Rattle.std.proofs.Common.{◌≡◌, ℕ, ◌+◌, ◌-◌, ◌*◌, ◌/◌, ◌%◌, ◌≤◌, min, true, false, leb, ℤ, pos, negsuc, ◌+ℤ◌, ◌*ℤ◌, Some, None, Option, sym, refl, ap, ◌∙◌, subst, inl, inr, arith}
 use lib.IntN.{pos-ne-negsuc, +ℤ_assoc}
 use Rattle.std.specs.Option.{option_map}
 use Rattle.std.proofs.lemmas.Bool.{cond-true, cond-false, cond_both, cases_Bool, leb-true, leb-false}
@@ -9,9 +9,9 @@ use Rattle.instants.specs.declared.moves.Unit as theUnit
 use Rattle.instants.specs.declared.moves.Unit.TheVariants.{Second, Minute, Hour, Day, Month, Year, MonthEnd}
 use Rattle.calendar.specs.Dates.{month_length, real, number, date_of}
 use Rattle.calendar.specs.Ways.{and_then}
-use Rattle.instants.specs.Moves.{natural, instant, reading_at, month_place, month_at, month_from, cut_in, last_in, by_seconds, by_days, by_months, to_month_end, with_second, real_moved, moved}
+use Rattle.instants.specs.Moves.{natural, instant, reading_at, month_place, month_at, month_from, by_seconds, by_days, by_months, to_month_end, with_second, real_moved, moved}
 use Rattle.instants.specs.Moving.{AtInstant, AtDay, InMonth, Moving}
-use Rattle.calendar.proofs.Dates.{Real, real_parts, real_whole, number_of_date, no_date, within, date_of-number, last_number, real_from, month_some}
+use Rattle.calendar.proofs.Dates.{real_parts, real_whole, number_of_date, no_date, last_number, real_from, month_some}
 
 is_moved : (r : Date × ℕ) (u : theUnit.Unit) (z : ℤ) → real r.0 ≡ true → moved r u z ≡ real_moved r u z
 unfolding moved

@@ -1,19 +1,16 @@
 -- A body line's end, and its first word, as relations. Assumes nothing.
-use Rattle.std.proofs.Common.{◌≡◌, ℕ, zero, suc, ◌+◌, ◌-◌, ◌<◌, ◌≤◌, Bool, true, false, cond, eqb, ◌⊎◌, List, [], ◌∷◌, ◌++◌, length, get_or, take, drop, sym, refl, ap, ◌∙◌, subst, inl, inr, ⊎_elim, arith}
+use Rattle.std.proofs.Common.{◌≡◌, ℕ, ◌+◌, ◌-◌, ◌<◌, true, false, cond, List, [], ◌∷◌, length, get_or, take, drop, sym, refl, ap, ◌∙◌, subst, ⊎_elim, arith}
 use Rattle.items.proofs.Cuts.{slash_outside}
 use Rattle.items.proofs.Parting.{Passes, all_leading, cut_parted, marks-drop, marks-take, none_before, run_behind}
 use Rattle.items.proofs.Scan.{ending-push, length-marks, step}
 use Rattle.items.specs.declared.mark.Mark.{Mark}
 use Rattle.items.specs.declared.mark.Mark.TheVariants.{Blank, Slash, Text}
-use Rattle.items.specs.declared.mark.Run.{Run}
 use Rattle.items.specs.declared.mark.Run.TheVariants.{Blanks, Loose}
-use Rattle.items.specs.Items.{body_items, cut_items, is_blank}
+use Rattle.items.specs.Items.{cut_items, is_blank}
 use Rattle.items.specs.Marks.{body_len, edge, is_slash, marks, passes}
 use Rattle.items.specs.Parting.{BodyParted, BodyEnd, Held, Reads, leaves, none, plain, slashed, some}
-use Rattle.reader.specs.Lines.{Piece}
 use Rattle.std.proofs.ByRecursion.{All-get_or}
-use Rattle.std.proofs.lemmas.List.{drop_more, length-take-le, take_all, take-append-drop, take_more}
-use Rattle.std.proofs.lemmas.List.Sums.{prefix_len-le-length}
+use Rattle.std.proofs.lemmas.List.{drop_more, take_all, take-append-drop, take_more}
 use Rattle.std.proofs.lemmas.Bool.{cases_Bool, cases_lt, cond-false, cond-true, eqb-false, eqb-true, true≢false}
 use Rattle.std.specs.List.{suffix_len, prefix_len}
 

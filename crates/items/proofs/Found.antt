@@ -1,5 +1,5 @@
 -- The first word, as a relation. Assumes nothing.
-use Rattle.std.proofs.Common.{◌≡◌, ℕ, ◌+◌, ◌<◌, ◌≤◌, Bool, true, false, cond, List, [], ◌∷◌, ◌++◌, length, get_or, take, drop, Some, None, sym, refl, ap, ◌∙◌, subst, ⊎_elim, arith, MatchOption}
+use Rattle.std.proofs.Common.{◌≡◌, ℕ, ◌+◌, ◌<◌, ◌≤◌, Bool, true, false, List, [], ◌∷◌, ◌++◌, length, get_or, take, drop, Some, None, sym, refl, ap, ◌∙◌, subst, ⊎_elim, arith, MatchOption}
 use Rattle.items.proofs.Ends.{blank_reads}
 use Rattle.items.proofs.Parting.{Passes, all_leading, marks-drop, marks-take, no_leading}
 use Rattle.items.proofs.Scan.{length-marks, step}
@@ -10,7 +10,7 @@ use Rattle.items.specs.declared.mark.Run.TheVariants.{Blanks, Word}
 use Rattle.items.specs.Items.{is_blank}
 use Rattle.items.specs.Marks.{after, mark_of, marks, passes}
 use Rattle.items.specs.Parting.{Reads, WordFound, WordsFound, leaves}
-use Rattle.items.specs.Words.{first_word, lead_of, word_len}
+use Rattle.items.specs.Words.{lead_of, word_len}
 use Rattle.std.proofs.lemmas.List.{drop_more, length-take-le, take-append-drop}
 use Rattle.std.proofs.lemmas.List.Sums.{prefix_len-le-length}
 use Rattle.std.proofs.lemmas.Bool.{cases_Bool, cond-false, cond-true, eqb-false}

@@ -1,13 +1,13 @@
 -- The items of a line part it. Assumes nothing.
-use Rattle.std.proofs.Common.{◌≡◌, ℕ, zero, suc, ◌+◌, ◌-◌, ◌<◌, ◌≤◌, Bool, true, false, cond, List, [], ◌∷◌, ◌++◌, map, reverse, length, get_or, take, drop, sym, refl, ap, ◌∙◌, subst, ⊎_elim, append_assoc, append-nil, add-one, one-add, arith}
+use Rattle.std.proofs.Common.{◌≡◌, ℕ, zero, suc, ◌+◌, ◌-◌, ◌<◌, ◌≤◌, Bool, true, false, List, [], ◌∷◌, ◌++◌, map, reverse, length, get_or, take, drop, sym, refl, ap, ◌∙◌, subst, ⊎_elim, append_assoc, append-nil, add-one, one-add, arith}
 use Rattle.items.proofs.Cuts.{goes_on, slash_outside}
 use Rattle.items.proofs.Scan.{edge_more_falls, edge_more_stays, ending-push, length-marks}
 use Rattle.items.specs.declared.mark.Mark.{Mark}
-use Rattle.items.specs.declared.mark.Mark.TheVariants.{Blank, Slash, Text}
+use Rattle.items.specs.declared.mark.Mark.TheVariants.{Text}
 use Rattle.items.specs.declared.mark.Run.{Run}
 use Rattle.items.specs.declared.mark.Run.TheVariants.{Blanks, Loose, Stretch}
-use Rattle.items.specs.Items.{cut_items, message_items, pieces, trimmed}
-use Rattle.items.specs.Marks.{after, core, edge, is_slash, mark_of, marks, passes}
+use Rattle.items.specs.Items.{cut_items, pieces, trimmed}
+use Rattle.items.specs.Marks.{after, edge, is_slash, mark_of, marks, passes}
 use Rattle.items.specs.Parting.{MessageParted, Parted, Reads, Trimmed, leaves, only, slash}
 use Rattle.reader.specs.Lines.{Piece}
 use Rattle.std.proofs.ByRecursion.{All-drop, All-push}

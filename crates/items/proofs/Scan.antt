@@ -1,11 +1,11 @@
 -- How a scan of bytes keeps what they read as. Assumes nothing.
-use Rattle.std.proofs.Common.{◌≡◌, ℕ, suc, ◌+◌, ◌-◌, ◌<◌, ◌≤◌, Bool, true, false, cond, List, [], ◌∷◌, ◌++◌, length, get_or, take, drop, sym, refl, ap, ◌∙◌, subst, arith}
+use Rattle.std.proofs.Common.{◌≡◌, ℕ, suc, ◌+◌, ◌-◌, ◌<◌, ◌≤◌, Bool, true, false, cond, List, [], ◌∷◌, ◌++◌, length, get_or, take, drop, refl, ap, ◌∙◌, arith}
 use Rattle.items.specs.declared.mark.Mark.{Mark}
 use Rattle.items.specs.declared.mark.Mark.TheVariants.{Blank, Slash, Text}
 use Rattle.items.specs.declared.mark.Run.{Run}
 use Rattle.items.specs.declared.mark.Run.TheVariants.{Blanks}
 use Rattle.items.specs.Marks.{after, body_len, edge, is_slash, mark_of, marks, passes}
-use Rattle.std.proofs.lemmas.List.{at_drop_all, at_drop_more, drop_all, drop_more, get_or_append_left, get_or_push, length_push, length-take-le, reverse-append, take_more}
+use Rattle.std.proofs.lemmas.List.{at_drop_all, at_drop_more, drop_more, get_or_append_left, get_or_push, length_push, length-take-le, reverse-append, take_more}
 use Rattle.std.proofs.lemmas.Bool.{cond-false, cond-true}
 use Rattle.std.specs.List.{suffix_len, prefix_len}
 

@@ -1,5 +1,5 @@
 -- The first word, off the front. Assumes nothing.
-use Rattle.std.proofs.Common.{◌≡◌, ℕ, zero, suc, ◌+◌, ◌<◌, ◌≤◌, Bool, true, false, cond, List, [], ◌∷◌, ◌++◌, length, take, drop, Some, sym, refl, ap, ◌∙◌, subst, ⊎_elim, append_assoc, append-nil, arith}
+use Rattle.std.proofs.Common.{◌≡◌, ℕ, zero, suc, ◌+◌, ◌<◌, Bool, true, false, List, [], ◌∷◌, length, take, drop, Some, sym, refl, ◌∙◌, subst, ⊎_elim, arith}
 use Rattle.items.specs.declared.mark.Mark.{Mark}
 use Rattle.items.specs.declared.mark.Mark.TheVariants.{Blank, Slash, Text}
 use Rattle.items.specs.declared.mark.Run.TheVariants.{Blanks, Word}
@@ -7,7 +7,6 @@ use Rattle.items.specs.Items.{is_blank}
 use Rattle.items.specs.Marks.{after, mark_of, marks, passes}
 use Rattle.items.specs.Words.{first_word, lead_of, word_len}
 use Rattle.std.proofs.lemmas.Bool.{cases_Bool, cond-false, cond-true, true≢false}
-use Rattle.std.proofs.lemmas.Bool.Decides.{nat_tests}
 use Rattle.std.specs.List.{prefix_len}
 
 -- a word is made of what does not read as a blank

@@ -1,4 +1,6 @@
 // Comments, words and items of a line, each lent from the text with its place.
+#![tactic(auto)]
+
 mod cut;
 mod law;
 mod mark;

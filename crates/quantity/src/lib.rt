@@ -1,4 +1,6 @@
 // Values, physical elements, units and parameter codes.
+#![tactic(auto)]
+
 pub mod amount;
 pub mod code;
 pub mod codes;

@@ -1,5 +1,5 @@
 -- The lines of a text less the front of its first line. Assumes nothing.
-use Rattle.std.proofs.Common.{◌≡◌, ℕ, zero, suc, ◌+◌, ◌<◌, ◌≤◌, true, false, cond, eqb, ◌⊎◌, List, [], ◌∷◌, ◌++◌, length, take, drop, sym, refl, ap, ◌∙◌, subst, inl, inr, ⊎_elim, append_assoc, append-nil, arith}
+use Rattle.std.proofs.Common.{◌≡◌, ℕ, zero, suc, ◌+◌, ◌≤◌, eqb, ◌⊎◌, List, [], ◌∷◌, ◌++◌, length, take, drop, sym, refl, ap, ◌∙◌, subst, inl, inr, ⊎_elim, append_assoc, append-nil, arith}
 use Rattle.reader.proofs.Scan.{last_line-some, return_le}
 use Rattle.reader.specs.Lines.{Piece, last_line, less_return, lines_from, lines_of}
 use Rattle.std.proofs.lemmas.List.{drop_all, drop_at, length-append, length_push, length-take-le}

@@ -1,9 +1,8 @@
 -- The lines of a text cut it. Assumes nothing.
-use Rattle.std.proofs.Common.{◌≡◌, ℕ, ◌+◌, ◌<◌, cond, eqb, List, [], ◌∷◌, ◌++◌, length, sym, refl, ap, ◌∙◌, subst, ⊎_elim, append_assoc, append-nil, arith}
-use Rattle.std.specs.List.{AllByRecursion as All}
+use Rattle.std.proofs.Common.{◌≡◌, ℕ, ◌+◌, eqb, List, [], ◌∷◌, ◌++◌, length, sym, subst, ⊎_elim, append_assoc, append-nil, arith}
 use Rattle.std.proofs.ByRecursion.{All-push}
 use Rattle.std.proofs.lemmas.Bool.{eqb-true, eqb-false, cond-true, cond-false, cases_Bool}
-use Rattle.reader.specs.Lines.{Piece, less_return, last_line, lines_from, lines}
+use Rattle.reader.specs.Lines.{less_return, last_line, lines_from}
 use Rattle.reader.specs.Cut.{NoFeed, Cut, none, last, feed, LinesCut}
 
 end : (p : ℕ) (line : List ℕ) → NoFeed line → Cut p line (last_line p line)

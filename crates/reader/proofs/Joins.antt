@@ -1,8 +1,8 @@
 -- The lines of two texts, the first of which ends a line. Assumes nothing.
-use Rattle.std.proofs.Common.{◌≡◌, ℕ, ◌+◌, true, false, cond, eqb, List, [], ◌∷◌, ◌++◌, map, length, sym, refl, ap, ◌∙◌, arith}
+use Rattle.std.proofs.Common.{◌≡◌, ℕ, ◌+◌, true, false, cond, eqb, List, [], ◌∷◌, ◌++◌, length, ap, ◌∙◌, arith}
 use Rattle.reader.proofs.Shifts.{lines-shifted}
 use Rattle.reader.specs.Cut.{LinesJoin}
-use Rattle.reader.specs.Lines.{Piece, less_return, lines, lines_from, lines_of, shifted}
+use Rattle.reader.specs.Lines.{less_return, lines, lines_from, lines_of}
 use Rattle.std.proofs.lemmas.List.{length_push}
 
 from : (p : ℕ) (part xs ys : List ℕ) → lines_from p part (xs ++ 10 ∷ ys) ≡ lines_from p part (xs ++ 10 ∷ []) ++ lines_from (p + length part + length xs + 1) [] ys

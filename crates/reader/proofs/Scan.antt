@@ -1,10 +1,10 @@
 -- How a scan for the line's end keeps the lines of a text. Assumes nothing.
-use Rattle.std.proofs.Common.{◌≡◌, ℕ, ◌+◌, ◌-◌, ◌<◌, ◌≤◌, true, false, cond, eqb, List, [], ◌∷◌, ◌++◌, length, get_or, take, drop, sym, refl, ap, ◌∙◌, subst, suc-le-suc, arith}
+use Rattle.std.proofs.Common.{◌≡◌, ℕ, ◌+◌, ◌-◌, ◌<◌, ◌≤◌, true, false, cond, eqb, List, [], ◌∷◌, ◌++◌, length, get_or, take, drop, sym, refl, ap, ◌∙◌, suc-le-suc, arith}
 use Rattle.std.specs.List.{between}
 use Rattle.std.proofs.lemmas.List.{at_drop_more, at_drop_all, take_all, take_more, take-take}
-use Rattle.std.proofs.lemmas.List.Edits.{between_more, between_none, length-between}
+use Rattle.std.proofs.lemmas.List.Edits.{between_more, length-between}
 use Rattle.std.proofs.lemmas.Bool.{ne_eqb, eq-eqb, cond-true, cond-false}
-use Rattle.reader.specs.Lines.{Piece, less_return, last_line, lines_from, lines_at}
+use Rattle.reader.specs.Lines.{less_return, last_line, lines_from, lines_at}
 
 less_return-push : (bs : List ℕ) (b : ℕ) → less_return (bs ++ b ∷ []) ≡ cond (eqb b 13) bs (bs ++ b ∷ [])
 less_return-push [] b = refl

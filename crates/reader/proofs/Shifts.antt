@@ -1,6 +1,6 @@
 -- The lines of a part of a text are those of the part by itself, their places shifted. Assumes nothing.
 use Rattle.std.proofs.Common.{◌≡◌, ℕ, ◌+◌, true, false, cond, eqb, List, [], ◌∷◌, ◌++◌, map, length, sym, refl, ap, ◌∙◌, add-zero, arith}
-use Rattle.reader.specs.Lines.{Piece, last_line, less_return, lines, lines_from, lines_of, shifted}
+use Rattle.reader.specs.Lines.{last_line, less_return, lines, lines_from, lines_of, shifted}
 
 last_shifted : (base p : ℕ) (line : List ℕ) → last_line (base + p) line ≡ map (shifted base) (last_line p line)
 last_shifted base p [] = refl

@@ -1,4 +1,6 @@
 // The lines of a text, and what kind of line each is by how it begins.
+#![tactic(auto)]
+
 mod kind;
 mod split;
 

@@ -1,4 +1,6 @@
 // Why something was not read, and where: one enum over all refusals, by the layer that refuses.
+#![tactic(auto)]
+
 ghost use Rattle.std.specs.Prelude.{◌≡◌};
 ghost use Rattle.refusals.specs.Numbers.{number_of, layer_of};
 

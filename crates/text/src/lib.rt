@@ -1,4 +1,6 @@
 // Signs of text: digits, capitals and the numbers that digits write.
+#![tactic(auto)]
+
 ghost use Rattle.std.specs.Prelude.{◌≡◌, ◌<◌, IfSome};
 ghost use Rattle.text.specs.Signs.{digit, capital, sign, pair_of};
 

@@ -3,13 +3,13 @@ use Rattle.std.proofs.lemmas.Bool.Decides.{nat_tests}
 use Rattle.calendar.specs.Dates.{month_length}
 use Rattle.calendar.proofs.date.month_length.Goals as goal
 
-pub returns-then-is-leap : goal.returns-then-is-leap
+pub returns-then-is_leap : goal.returns-then-is_leap
 unfolding month_length
-returns-then-is-leap c = record { value = grind (arith, nat_tests); valid = omega arith }
+returns-then-is_leap c = record { value = grind (arith, nat_tests); valid = omega arith }
 
-pub returns-else-is-leap : goal.returns-else-is-leap
+pub returns-else-is_leap : goal.returns-else-is_leap
 unfolding month_length
-returns-else-is-leap c = record { value = grind (arith, nat_tests); valid = omega arith }
+returns-else-is_leap c = record { value = grind (arith, nat_tests); valid = omega arith }
 
 pub returns-in-4 : goal.returns-in-4
 unfolding month_length
@@ -19,14 +19,14 @@ pub returns-in-1 : goal.returns-in-1
 unfolding month_length
 returns-in-1 c = record { value = grind (arith, nat_tests); valid = omega arith }
 
-pub returns-in-default : goal.returns-in-default
+pub returns-in_default : goal.returns-in_default
 unfolding month_length
-returns-in-default c = record { value = grind (arith, nat_tests); valid = omega arith }
+returns-in_default c = record { value = grind (arith, nat_tests); valid = omega arith }
 
-pub returns-in-default·2 : goal.returns-in-default·2
+pub returns-in_default-2 : goal.returns-in_default-2
 unfolding month_length
-returns-in-default·2 c = record { value = grind (arith, nat_tests); valid = omega arith }
+returns-in_default-2 c = record { value = grind (arith, nat_tests); valid = omega arith }
 
-pub returns-in-1·2 : goal.returns-in-1·2
+pub returns-in-1-2 : goal.returns-in-1-2
 unfolding month_length
-returns-in-1·2 c = record { value = grind (arith, nat_tests); valid = omega arith }
+returns-in-1-2 c = record { value = grind (arith, nat_tests); valid = omega arith }

@@ -4,13 +4,13 @@ use Rattle.calendar.specs.Dates.{message_day}
 use Rattle.calendar.specs.Messages.{candidate}
 use Rattle.calendar.proofs.message.message_day.Goals as goal
 
-pub returns-then-is-message-day : goal.returns-then-is-message-day
+pub returns-then-is_message_day : goal.returns-then-is_message_day
 unfolding candidate
-returns-then-is-message-day c = search rules
+returns-then-is_message_day c = search rules
 
-pub returns-else-is-message-day : goal.returns-else-is-message-day
+pub returns-else-is_message_day : goal.returns-else-is_message_day
 unfolding candidate
-returns-else-is-message-day c = search rules
+returns-else-is_message_day c = search rules
 
 pub returns-then-year-from : goal.returns-then-year-from
 unfolding candidate message_day

@@ -2,13 +2,13 @@ use Rattle.std.proofs.Common.{rules}
 use Rattle.calendar.specs.Messages.{nearer}
 use Rattle.calendar.proofs.message.nearer_day.Goals as goal
 
-pub returns-then-abs-diff : goal.returns-then-abs-diff
+pub returns-then-abs_diff : goal.returns-then-abs_diff
 unfolding nearer
-returns-then-abs-diff c = search rules
+returns-then-abs_diff c = search rules
 
-pub returns-else-abs-diff : goal.returns-else-abs-diff
+pub returns-else-abs_diff : goal.returns-else-abs_diff
 unfolding nearer
-returns-else-abs-diff c = search rules
+returns-else-abs_diff c = search rules
 
 pub returns-in-Some-None : goal.returns-in-Some-None
 unfolding nearer

@@ -1,4 +1,4 @@
-use Rattle.std.proofs.Common.{sym, inl, inr, arith}
+use Rattle.std.proofs.Common.{sym, inr, arith}
 use Rattle.calendar.proofs.Dates.{outside}
 use Rattle.instants.proofs.moves.day_at.Goals as goal
 

@@ -6,6 +6,6 @@ pub returns : goal.returns
 unfolding by_months
 returns c = search rules
 
-pub returns-in-err-year : goal.returns-in-err-year
+pub returns-in_err-year : goal.returns-in_err-year
 unfolding by_months
-returns-in-err-year c = search rules
+returns-in_err-year c = search rules

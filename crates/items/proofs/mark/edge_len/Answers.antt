@@ -1,4 +1,4 @@
-use Rattle.std.proofs.Common.{◌≡◌, ◌+◌, false, sym, ap, ◌∙◌, subst, arith}
+use Rattle.std.proofs.Common.{◌+◌, false, sym, ap, ◌∙◌, subst, arith}
 use Rattle.items.proofs.mark.edge_len.Goals as goal
 use Rattle.items.proofs.mark.edge_len.Goals.{then-not-belongs, else-not-belongs}
 use Rattle.items.proofs.Scan.{Open, edge_more_falls, edge_more_stays, length-marks, step}
@@ -11,8 +11,8 @@ loop-i-preserved c =
     let i = c.loop-i.i in
     let long = length-marks false c.args.bytes.now in
     let here = step c.args.bytes.now c.loop-i.i c.loop-i.inside c.loop-i-test.true c.loop-i.invariant.0 in
-    let told = ap (passes c.args.run) (here.mark ∙ sym c.mark-of.ensures) ∙ sym c.belongs.ensures in (
-      subst (Open xs (i + 1)) (sym c.is-open-after-inside.ensures) here.next,
+    let told = ap (passes c.args.run) (here.mark ∙ sym c.mark_of.ensures) ∙ sym c.belongs.ensures in (
+      subst (Open xs (i + 1)) (sym c.is_open_after-inside.ensures) here.next,
       elim c.if-not-belongs.branch [ then-not-belongs w ↦ omega (arith, w.n-is) | else-not-belongs w ↦ omega (arith, w.n-is) ],
       elim c.if-not-belongs.branch [
         | then-not-belongs w ↦ w.n-is ∙ sym (edge_more_stays (marks false xs) i (omega arith) c.args.run (told ∙ w.if-not-belongs.true))

@@ -3,4 +3,4 @@ use Rattle.quantity.proofs.durations.duration_of.Goals as goal
 
 pub returns : goal.returns
 unfolding durations
-returns c = c.find-number.ensures
+returns c = c.find_number.ensures

@@ -5,4 +5,4 @@ use Rattle.quantity.proofs.elements.element_of.Goals as goal
 
 pub returns : goal.returns
 unfolding elements
-returns c = record { value = c.find-row.ensures; fair = subst (λ o. IfSome o Fair) (sym c.find-row.ensures) (table_fair c.args.first c.args.second) }
+returns c = record { value = c.find_row.ensures; fair = subst (λ o. IfSome o Fair) (sym c.find_row.ensures) (table_fair c.args.first c.args.second) }

@@ -8,13 +8,13 @@ returns-in-13 c =
     let is : get_or c.args.line.now (length c.args.line.now - 1) 0 ≡ 13 = search rules in
     sym (with_return c.args.line.now some is)
 
-pub returns-in-default : goal.returns-in-default
-returns-in-default c =
+pub returns-in_default : goal.returns-in_default
+returns-in_default c =
     let some : length c.args.line.now ≡ 0 = search rules in
     sym (no_line c.args.line.now some)
 
-pub returns-in-default·2 : goal.returns-in-default·2
-returns-in-default·2 c =
+pub returns-in_default-2 : goal.returns-in_default-2
+returns-in_default-2 c =
     let some : 0 < length c.args.line.now = search rules in
     let is : get_or c.args.line.now (length c.args.line.now - 1) 0 ≡ 13 → ⊥ = search rules in
     sym (no_return c.args.line.now some is)

@@ -1,4 +1,4 @@
-use Rattle.std.proofs.Common.{◌≡◌, ℕ, ◌*◌, ◌^◌, ◌<◌, ◌≤◌, cond, ℤ, pos, neg_ℤ, nat_abs, ap, ◌∙◌, arith, w8, to_z, of_z}
+use Rattle.std.proofs.Common.{◌≡◌, ℕ, ◌*◌, ◌^◌, cond, ℤ, pos, neg_ℤ, nat_abs, ap, ◌∙◌, arith, w8, to_z, of_z}
 use lib.Signed.{lt_z}
 use Rattle.std.proofs.lemmas.Nat.{mul-le}
 use Rattle.std.proofs.lemmas.Int.{to_z-of_z}
@@ -11,7 +11,7 @@ unfolding signed
 returns c =
     let same : to_z w8 (of_z w8 c.args.count) ≡ c.args.count = to_z-of_z w8 c.args.count c.ranges.count in
     let times : c.from.result ≡ c.args.times = c.from.ensures in
-    let size : c.from-2.result ≡ nat_abs c.args.count = c.from-2.ensures ∙ c.unsigned-abs.ensures.value ∙ ap nat_abs same in
+    let size : c.from-2.result ≡ nat_abs c.args.count = c.from-2.ensures ∙ c.unsigned_abs.ensures.value ∙ ap nat_abs same in
     let form : ℤ → ℕ → ℕ → ℤ = λ z t s. cond (lt_z z (pos 0)) (neg_ℤ (pos (t * s))) (pos (t * s)) in
     record {
       value =

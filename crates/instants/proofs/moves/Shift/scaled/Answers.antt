@@ -1,11 +1,11 @@
-use Rattle.std.proofs.Common.{◌≡◌, ◌*◌, ◌^◌, ◌<◌, ◌≤◌, cond, pos, neg_ℤ, ap, ◌∙◌, arith}
+use Rattle.std.proofs.Common.{◌≡◌, ◌*◌, ◌^◌, cond, pos, neg_ℤ, ap, ◌∙◌, arith}
 use Rattle.std.proofs.lemmas.Nat.{mul-le}
 use Rattle.instants.specs.Shifts.{signed}
 use Rattle.instants.proofs.Shifting.{scaled_signed}
 use Rattle.instants.proofs.moves.Shift.scaled.Goals as goal
 
-pub overflow-mul-result : goal.overflow-mul-result
-overflow-mul-result c = omega (arith, mul-le c.from.result c.args.self.size (2 ^ 16) (2 ^ 72) (omega arith) c.requires)
+pub overflow_mul-result : goal.overflow_mul-result
+overflow_mul-result c = omega (arith, mul-le c.from.result c.args.self.size (2 ^ 16) (2 ^ 72) (omega arith) c.requires)
 
 pub returns : goal.returns
 unfolding signed
