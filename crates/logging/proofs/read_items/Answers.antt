@@ -8,20 +8,20 @@ use Rattle.logging.specs.Follow.{own_item, own_items}
 use Rattle.logging.proofs.Following.{read_more, read_stopped, read_all}
 use Rattle.logging.proofs.read_items.Goals as goal
 
-pub returns-in-err-progress : goal.returns-in-err-progress
-returns-in-err-progress g c =
-    let p = err_from_is_err_and c.from-residual.result c.from-residual.ensures.1 in
+pub returns-in_err-progress : goal.returns-in_err-progress
+returns-in_err-progress g c =
+    let p = err_from_is_err_and c.from_residual.result c.from_residual.ensures.1 in
     let f = c.args.message.now.form in
-    let e = ap (own_items f) c.in-Some.ensures ∙ ap (λ x. x ∷ own_items f (items_ahead c.next_item.new.self)) (sym c.own-part-part.ensures) in
+    let e = ap (own_items f) c.in-Some.ensures ∙ ap (λ x. x ∷ own_items f (items_ahead c.next_item.new.self)) (sym c.own_part-part.ensures) in
     record {
-      cases = comes_err _ _ _ _ p.1 p.2 (read_stopped (setting c.args.today (g.R.Rule.daylight c.args.rule.now)) (common c.args.message.now) (reached c.loop-item.progress) (sided c.own-part-part.result) (own_items f (items_ahead c.next_item.new.self)) e c.loop-item.invariant.0 c.in-err-progress.ensures.cases);
-      frame = g.S.Sink.ties.goes _ _ _ c.loop-item.invariant.1 c.take-part.ensures.frame;
+      cases = comes_err _ _ _ _ p.1 p.2 (read_stopped (setting c.args.today (g.R.Rule.daylight c.args.rule.now)) (common c.args.message.now) (reached c.loop-item.progress) (sided c.own_part-part.result) (own_items f (items_ahead c.next_item.new.self)) e c.loop-item.invariant.0 c.in_err-progress.ensures.cases);
+      frame = g.S.Sink.ties.goes _ _ _ c.loop-item.invariant.1 c.take_part.ensures.frame;
     }
 
 pub loop-item-preserved : goal.loop-item-preserved
 loop-item-preserved g c =
     let f = c.args.message.now.form in
-    let e = ap (own_items f) c.in-Some.ensures ∙ ap (λ x. x ∷ own_items f (items_ahead c.next_item.new.self)) (sym c.own-part-part.ensures) in (
-      read_more (setting c.args.today (g.R.Rule.daylight c.args.rule.now)) (common c.args.message.now) (reached c.loop-item.progress) (sided c.own-part-part.result) (own_items f (items_ahead c.next_item.new.self)) (reached c.in-ok-progress.progress) e c.loop-item.invariant.0 c.in-ok-progress.ensures.cases,
-      g.S.Sink.ties.goes _ _ _ c.loop-item.invariant.1 c.take-part.ensures.frame,
+    let e = ap (own_items f) c.in-Some.ensures ∙ ap (λ x. x ∷ own_items f (items_ahead c.next_item.new.self)) (sym c.own_part-part.ensures) in (
+      read_more (setting c.args.today (g.R.Rule.daylight c.args.rule.now)) (common c.args.message.now) (reached c.loop-item.progress) (sided c.own_part-part.result) (own_items f (items_ahead c.next_item.new.self)) (reached c.in_ok-progress.progress) e c.loop-item.invariant.0 c.in_ok-progress.ensures.cases,
+      g.S.Sink.ties.goes _ _ _ c.loop-item.invariant.1 c.take_part.ensures.frame,
     )

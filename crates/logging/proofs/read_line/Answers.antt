@@ -5,16 +5,16 @@ use Rattle.messages.specs.Models.{setting, common, reached}
 use Rattle.logging.proofs.Following.{read_more, read_stopped, read_all}
 use Rattle.logging.proofs.read_line.Goals as goal
 
-pub returns-in-err-progress : goal.returns-in-err-progress
-returns-in-err-progress g c =
-    let p = err_from_is_err_and c.from-residual.result c.from-residual.ensures.1 in
+pub returns-in_err-progress : goal.returns-in_err-progress
+returns-in_err-progress g c =
+    let p = err_from_is_err_and c.from_residual.result c.from_residual.ensures.1 in
     record {
-      cases = comes_err _ _ _ _ p.1 p.2 (read_stopped (setting c.args.today (g.R.Rule.daylight c.args.rule.now)) (common c.args.message.now) (reached c.loop-part.progress) (sided c.in-Some.part) (parts_ahead c.next_part.new.self) c.in-Some.ensures c.loop-part.invariant.0 c.in-err-progress.ensures.cases);
-      frame = g.S.Sink.ties.goes _ _ _ c.loop-part.invariant.1 c.take-part.ensures.frame;
+      cases = comes_err _ _ _ _ p.1 p.2 (read_stopped (setting c.args.today (g.R.Rule.daylight c.args.rule.now)) (common c.args.message.now) (reached c.loop-part.progress) (sided c.in-Some.part) (parts_ahead c.next_part.new.self) c.in-Some.ensures c.loop-part.invariant.0 c.in_err-progress.ensures.cases);
+      frame = g.S.Sink.ties.goes _ _ _ c.loop-part.invariant.1 c.take_part.ensures.frame;
     }
 
 pub loop-part-preserved : goal.loop-part-preserved
 loop-part-preserved g c = (
-  read_more (setting c.args.today (g.R.Rule.daylight c.args.rule.now)) (common c.args.message.now) (reached c.loop-part.progress) (sided c.in-Some.part) (parts_ahead c.next_part.new.self) (reached c.in-ok-progress.progress) c.in-Some.ensures c.loop-part.invariant.0 c.in-ok-progress.ensures.cases,
-  g.S.Sink.ties.goes _ _ _ c.loop-part.invariant.1 c.take-part.ensures.frame,
+  read_more (setting c.args.today (g.R.Rule.daylight c.args.rule.now)) (common c.args.message.now) (reached c.loop-part.progress) (sided c.in-Some.part) (parts_ahead c.next_part.new.self) (reached c.in_ok-progress.progress) c.in-Some.ensures c.loop-part.invariant.0 c.in_ok-progress.ensures.cases,
+  g.S.Sink.ties.goes _ _ _ c.loop-part.invariant.1 c.take_part.ensures.frame,
 )

@@ -12,7 +12,7 @@ use Rattle.daylight.proofs.utc.to_utc.Goals as goal
 pub returns-in-err-date : goal.returns-in-err-date
 unfolding to_utc
 returns-in-err-date c =
-    ap (λ o. option_map {U = Date × ℕ} (λ (t : UtcTime). (t.date, t.second)) o) c.from-residual.ensures
+    ap (λ o. option_map {U = Date × ℕ} (λ (t : UtcTime). (t.date, t.second)) o) c.from_residual.ensures
     ∙ ap (λ o. and_then o only_utc) (sym c.in-err-date.was ∙ c.moved.ensures ∙ ap (λ n. moved c.args.reading Second (pos n)) (mul-one c.seconds-behind.result ∙ c.seconds-behind.ensures))
 
 pub returns : goal.returns

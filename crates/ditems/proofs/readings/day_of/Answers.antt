@@ -9,10 +9,10 @@ pub returns-then-year-from : goal.returns-then-year-from
 unfolding day_of candidate message_day
 returns-then-year-from c = grind (arith, nat_tests)
 
-pub returns-then-is-message-day : goal.returns-then-is-message-day
+pub returns-then-is_message_day : goal.returns-then-is_message_day
 unfolding day_of candidate
-returns-then-is-message-day c = search rules
+returns-then-is_message_day c = search rules
 
-pub returns-else-is-message-day : goal.returns-else-is-message-day
+pub returns-else-is_message_day : goal.returns-else-is_message_day
 unfolding day_of candidate
-returns-else-is-message-day c = search rules
+returns-else-is_message_day c = search rules

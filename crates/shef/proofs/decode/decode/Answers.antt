@@ -10,11 +10,11 @@ use Rattle.messages.specs.Models.{setting}
 use Rattle.shef.specs.Decodes.{counted, decoded, delivered}
 use Rattle.shef.proofs.decode.decode.Goals as goal
 
-pub returns-then-not-is-message-day : goal.returns-then-not-is-message-day
-returns-then-not-is-message-day g c =
+pub returns-then-not-is_message_day : goal.returns-then-not-is_message_day
+returns-then-not-is_message_day g c =
     let S = setting c.args.today (g.R.Rule.daylight c.args.rule.now) in
     let l = g.S.Sink.holds c.args.sink.now in
-    let dark : message_day c.args.today ≡ false = sym c.is-message-day.ensures ∙ c.if-not-is-message-day.true in
+    let dark : message_day c.args.today ≡ false = sym c.is_message_day.ensures ∙ c.if-not-is_message_day.true in
     let one : refused CurrentDate 0 ∷ [] ≡ decoded S c.args.text.now = sym (cond-false (message_day c.args.today) _ _ dark) in
     record {
       sink = ap (λ es. put_all l (records es)) one;

@@ -25,14 +25,14 @@ loop-line-preserved-in-Ok g c =
     let e = length c.args.text.now in
     let σ = stage_of c.loop-line.machine in
     let l = line_piece c.in-Some.line in
-    let ls = lines_ahead c.next-line.new.self in
+    let ls = lines_ahead c.next_line.new.self in
     let gave = c.in-Some.ensures.1 in
     let tie = subst (λ (x : List Piece). Tied c.loop-line.machine x) gave.next c.loop-line.invariant.1 in
-    let here = turn_refused (ends_here σ l) (records_here σ l) (turn_renamed c.loop-line.invariant.0 (ap (to_come S e σ) gave.next ∙ to_come-line S e σ l ls)) c.close-before-found.ensures.list c.close-before-found.ensures.count in (
+    let here = turn_refused (ends_here σ l) (records_here σ l) (turn_renamed c.loop-line.invariant.0 (ap (to_come S e σ) gave.next ∙ to_come-line S e σ l ls)) c.close_before-found.ensures.list c.close_before-found.ensures.count in (
       turn_passed (came S (next S σ l)) (behind_line S e ls) (stretches S e (cut ls).1) here (c.in-Ok.ensures.cases gave.fits tie),
       c.in-Ok.ensures.tied tie,
-      g.S.Sink.ties.goes _ _ _ c.loop-line.invariant.2 c.take-line.ensures.frame,
-      grown_ties.goes _ _ _ c.loop-line.invariant.3 c.close-before-found.ensures.frame,
+      g.S.Sink.ties.goes _ _ _ c.loop-line.invariant.2 c.take_line.ensures.frame,
+      grown_ties.goes _ _ _ c.loop-line.invariant.3 c.close_before-found.ensures.frame,
     )
 
 pub returns-in-NoRoom : goal.returns-in-NoRoom
@@ -41,16 +41,16 @@ returns-in-NoRoom g c =
     let e = length c.args.text.now in
     let σ = stage_of c.loop-line.machine in
     let l = line_piece c.in-Some.line in
-    let ls = lines_ahead c.next-line.new.self in
+    let ls = lines_ahead c.next_line.new.self in
     let gave = c.in-Some.ensures.1 in
     let tie = subst (λ (x : List Piece). Tied c.loop-line.machine x) gave.next c.loop-line.invariant.1 in
-    let here = turn_refused (ends_here σ l) (records_here σ l) (turn_renamed c.loop-line.invariant.0 (ap (to_come S e σ) gave.next ∙ to_come-line S e σ l ls)) c.close-before-found.ensures.list c.close-before-found.ensures.count in
+    let here = turn_refused (ends_here σ l) (records_here σ l) (turn_renamed c.loop-line.invariant.0 (ap (to_come S e σ) gave.next ∙ to_come-line S e σ l ls)) c.close_before-found.ensures.list c.close_before-found.ensures.count in
     let full = turn_full (came S (next S σ l)) (behind_line S e ls) (stretches S e (cut ls).1) c.in-Err.fault here (c.in-Err.ensures.cases gave.fits tie) c.in-NoRoom.is c.report-found.ensures.list c.report-found.ensures.count in
     record {
-      done = read_from _ full.1 refl (omega (arith, c.saturating-sub-delivered.ensures, c.count.ensures, c.count-held.ensures)) full.2;
+      done = read_from _ full.1 refl (omega (arith, c.saturating_sub-delivered.ensures, c.count.ensures, c.count-held.ensures)) full.2;
       frame = (
-        g.S.Sink.ties.goes _ _ _ c.loop-line.invariant.2 c.take-line.ensures.frame,
-        grown_ties.goes _ _ _ (grown_ties.goes _ _ _ c.loop-line.invariant.3 c.close-before-found.ensures.frame) c.report-found.ensures.frame,
+        g.S.Sink.ties.goes _ _ _ c.loop-line.invariant.2 c.take_line.ensures.frame,
+        grown_ties.goes _ _ _ (grown_ties.goes _ _ _ c.loop-line.invariant.3 c.close_before-found.ensures.frame) c.report-found.ensures.frame,
       );
     }
 
@@ -60,15 +60,15 @@ loop-line-preserved g c =
     let e = length c.args.text.now in
     let σ = stage_of c.loop-line.machine in
     let l = line_piece c.in-Some.line in
-    let ls = lines_ahead c.next-line.new.self in
+    let ls = lines_ahead c.next_line.new.self in
     let gave = c.in-Some.ensures.1 in
     let tie = subst (λ (x : List Piece). Tied c.loop-line.machine x) gave.next c.loop-line.invariant.1 in
-    let here = turn_refused (ends_here σ l) (records_here σ l) (turn_renamed c.loop-line.invariant.0 (ap (to_come S e σ) gave.next ∙ to_come-line S e σ l ls)) c.close-before-found.ensures.list c.close-before-found.ensures.count in
-    let stopped = turn_stopped (came S (next S σ l)) (behind_line S e ls) (stretches S e (cut ls).1) c.in-Err.fault here (c.in-Err.ensures.cases gave.fits tie) c.in-default-refusal.not-NoRoom c.report-found.ensures.list c.report-found.ensures.count in (
+    let here = turn_refused (ends_here σ l) (records_here σ l) (turn_renamed c.loop-line.invariant.0 (ap (to_come S e σ) gave.next ∙ to_come-line S e σ l ls)) c.close_before-found.ensures.list c.close_before-found.ensures.count in
+    let stopped = turn_stopped (came S (next S σ l)) (behind_line S e ls) (stretches S e (cut ls).1) c.in-Err.fault here (c.in-Err.ensures.cases gave.fits tie) c.in_default-refusal.not-NoRoom c.report-found.ensures.list c.report-found.ensures.count in (
       turn_renamed stopped (to_come_skipping S e ls ∙ ap (λ τ. to_come S e τ ls) (sym c.skip.ensures.stage)),
       c.skip.ensures.tied ls,
-      g.S.Sink.ties.goes _ _ _ c.loop-line.invariant.2 c.take-line.ensures.frame,
-      grown_ties.goes _ _ _ (grown_ties.goes _ _ _ c.loop-line.invariant.3 c.close-before-found.ensures.frame) c.report-found.ensures.frame,
+      g.S.Sink.ties.goes _ _ _ c.loop-line.invariant.2 c.take_line.ensures.frame,
+      grown_ties.goes _ _ _ (grown_ties.goes _ _ _ c.loop-line.invariant.3 c.close_before-found.ensures.frame) c.report-found.ensures.frame,
     )
 
 pub returns : goal.returns
@@ -76,8 +76,8 @@ returns g c =
     let S = setting c.args.today (g.R.Rule.daylight c.args.rule.now) in
     let e = length c.args.text.now in
     let σ = stage_of c.loop-line.machine in
-    let end = turn_refused (closing σ e) (records_end σ e) (turn_renamed c.loop-line.invariant.0 (ap (to_come S e σ) c.in-default.ensures.1.0 ∙ to_come_end S e σ)) c.close-at-found.ensures.list c.close-at-found.ensures.count in
+    let end = turn_refused (closing σ e) (records_end σ e) (turn_renamed c.loop-line.invariant.0 (ap (to_come S e σ) c.in_default.ensures.1.0 ∙ to_come_end S e σ)) c.close_at-found.ensures.list c.close_at-found.ensures.count in
     record {
-      done = turn_ended _ end refl (omega (arith, c.saturating-sub-delivered-2.ensures, c.count-2.ensures, c.count-held.ensures)) refl;
-      frame = (c.loop-line.invariant.2, grown_ties.goes _ _ _ c.loop-line.invariant.3 c.close-at-found.ensures.frame);
+      done = turn_ended _ end refl (omega (arith, c.saturating_sub-delivered-2.ensures, c.count-2.ensures, c.count-held.ensures)) refl;
+      frame = (c.loop-line.invariant.2, grown_ties.goes _ _ _ c.loop-line.invariant.3 c.close_at-found.ensures.frame);
     }

@@ -6,5 +6,5 @@ pub returns : goal.returns
 returns c = record {
   list = puts c.push.result c.args.faults.now c.push.new.self c.args.fault _ c.push.ensures.cases;
   frame = push_grown c.push.result c.args.faults.now c.push.new.self c.args.fault c.push.ensures.cases c.push.ensures.lent;
-  count = c.saturating-add.ensures;
+  count = c.saturating_add.ensures;
 }

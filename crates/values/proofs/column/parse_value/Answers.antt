@@ -9,13 +9,13 @@ use Rattle.values.proofs.column.parse_value.Goals as goal
 
 pub returns-in-err-amount : goal.returns-in-err-amount
 returns-in-err-amount c =
-    rw c.from-residual.ensures (λ v is. no_amount c.args.column.now v is (c.in-err-amount.ensures.value ∙ ap amount_of c.trim-start.ensures))
+    rw c.from_residual.ensures (λ v is. no_amount c.args.column.now v is (c.in-err-amount.ensures.value ∙ ap amount_of c.trim-start.ensures))
 
 pub returns-in-err-value : goal.returns-in-err-value
 returns-in-err-value c =
     let z = c.in-ok-amount.amount in
     let fits : SFits w64 z = search rules in
-    rw c.from-residual-in-err-value.ensures (λ v is. no_value c.args.column.now v is z _ (to_z-of_z w64 z fits) (c.in-ok-amount.ensures.value ∙ ap amount_of c.trim-start.ensures) c.in-err-value.ensures)
+    rw c.from_residual-in-err-value.ensures (λ v is. no_value c.args.column.now v is z _ (to_z-of_z w64 z fits) (c.in-ok-amount.ensures.value ∙ ap amount_of c.trim-start.ensures) c.in-err-value.ensures)
 
 pub returns-then-eq : goal.returns-then-eq
 returns-then-eq c = (slice_eq-Decides Decides-eqb _ _ _ c.eq.ensures).0 c.if-eq.true ∙ c.value-text.ensures

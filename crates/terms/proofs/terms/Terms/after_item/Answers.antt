@@ -9,13 +9,13 @@ unfolding after_item
 returns-in-68 g c =
     let some : 2 ≤ length c.args.item.now = search rules in
     let is : get_or c.args.item.now 0 0 ≡ 68 = search rules in
-    c.after-kind.ensures
+    c.after_kind.ensures
     ∙ sym (ap (λ (l : List ℕ). after_item c.args.today (g.R.Rule.daylight c.args.rule.now) c.args.zone c.args.stage l (standing c.args.self)) (first_two c.args.item.now some) ∙ simp is)
 
-pub returns-in-default : goal.returns-in-default
+pub returns-in_default : goal.returns-in_default
 unfolding after_item
-returns-in-default g c = search rules
+returns-in_default g c = search rules
 
-pub returns-in-default·2 : goal.returns-in-default·2
+pub returns-in_default-2 : goal.returns-in_default-2
 unfolding after_item
-returns-in-default·2 g c = search rules
+returns-in_default-2 g c = search rules

@@ -22,6 +22,6 @@ pub returns-in-73 : goal.returns-in-73
 unfolding kind_item
 returns-in-73 g c = search rules
 
-pub returns-in-default : goal.returns-in-default
+pub returns-in_default : goal.returns-in_default
 unfolding kind_item
-returns-in-default g c = search rules
+returns-in_default g c = search rules

@@ -2,9 +2,9 @@ use Rattle.std.proofs.Common.{rules}
 use Rattle.terms.specs.Observed.{step_reading}
 use Rattle.terms.proofs.terms.Terms.step_reading.Goals as goal
 
-pub returns-in-err-first : goal.returns-in-err-first
+pub returns-in_err-first : goal.returns-in_err-first
 unfolding step_reading
-returns-in-err-first c = search rules
+returns-in_err-first c = search rules
 
 pub returns-then-step-eq0 : goal.returns-then-step-eq0
 unfolding step_reading

@@ -2,13 +2,13 @@ use Rattle.std.proofs.Common.{rules}
 use Rattle.terms.specs.Settings.{interval_item}
 use Rattle.terms.proofs.terms.Terms.with_interval.Goals as goal
 
-pub returns-then-not-is-before-steps : goal.returns-then-not-is-before-steps
+pub returns-then-not-is_before_steps : goal.returns-then-not-is_before_steps
 unfolding interval_item
-returns-then-not-is-before-steps c = search rules
+returns-then-not-is_before_steps c = search rules
 
-pub returns-in-err-by : goal.returns-in-err-by
+pub returns-in_err-by : goal.returns-in_err-by
 unfolding interval_item
-returns-in-err-by c = search rules
+returns-in_err-by c = search rules
 
 pub returns : goal.returns
 unfolding interval_item

@@ -2,13 +2,13 @@ use Rattle.std.proofs.Common.{rules}
 use Rattle.terms.specs.Settings.{relative_item}
 use Rattle.terms.proofs.terms.Terms.with_relative.Goals as goal
 
-pub returns-then-is-among-steps : goal.returns-then-is-among-steps
+pub returns-then-is_among_steps : goal.returns-then-is_among_steps
 unfolding relative_item
-returns-then-is-among-steps c = search rules
+returns-then-is_among_steps c = search rules
 
-pub returns-in-err-by : goal.returns-in-err-by
+pub returns-in_err-by : goal.returns-in_err-by
 unfolding relative_item
-returns-in-err-by c = search rules
+returns-in_err-by c = search rules
 
 pub returns : goal.returns
 unfolding relative_item

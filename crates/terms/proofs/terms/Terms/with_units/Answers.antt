@@ -2,9 +2,9 @@ use Rattle.std.proofs.Common.{rules}
 use Rattle.terms.specs.Settings.{units_item}
 use Rattle.terms.proofs.terms.Terms.with_units.Goals as goal
 
-pub returns-in-err-units : goal.returns-in-err-units
+pub returns-in_err-units : goal.returns-in_err-units
 unfolding units_item
-returns-in-err-units c = search rules
+returns-in_err-units c = search rules
 
 pub returns : goal.returns
 unfolding units_item
