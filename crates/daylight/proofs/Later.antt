@@ -1,5 +1,5 @@
 -- UTC on the line of instants.
-use Rattle.std.proofs.Common.{◌≡◌, ℕ, ◌+◌, ◌<◌, Bool, true, false, cond, ◌&&◌, ltb, ◌⊎◌, pos, Some, None, Option, sym, refl, ap, ◌∙◌, subst, inl, inr, arith}
+use Rattle.std.proofs.Common.{◌≡◌, ℕ, ◌+◌, ◌<◌, true, false, ltb, pos, Some, None, Option, sym, ap, ◌∙◌, subst, inl, inr, arith}
 use Rattle.std.proofs.lemmas.Bool.{cond_both, cases_Bool, and_parts, ltb-true, both_ways}
 use Rattle.calendar.specs.declared.date.Date.{Date}
 use Rattle.instants.specs.declared.moves.Unit.TheVariants.{Second}
@@ -11,7 +11,6 @@ use Rattle.instants.specs.Utc.{utc_time}
 use Rattle.instants.proofs.Moving.{moving}
 use Rattle.calendar.proofs.Dates.{same_number, real_parts}
 use Rattle.calendar.proofs.Nearest.{message_day_lem}
-use Rattle.daylight.specs.declared.zone.Zone.{Zone}
 use Rattle.daylight.specs.Zones.{seconds_behind}
 use Rattle.daylight.specs.Utc.{only_utc, to_utc, Behind, UtcIsLater}
 

@@ -1,14 +1,14 @@
 -- The Sundays of the law, and the entries of a list.
-use Rattle.std.proofs.Common.{◌≡◌, ℕ, zero, suc, ◌+◌, ◌-◌, ◌%◌, ◌<◌, ◌≤◌, true, false, cond, eqb, ◌⊎◌, List, [], ◌∷◌, ◌++◌, sym, refl, ap, ◌∙◌, inl, inr, arith}
+use Rattle.std.proofs.Common.{◌≡◌, ℕ, zero, suc, ◌+◌, ◌-◌, ◌%◌, ◌<◌, ◌≤◌, false, ◌⊎◌, List, [], ◌∷◌, ◌++◌, refl, ap, ◌∙◌, inl, inr, arith}
 use Rattle.std.proofs.lemmas.Bool.{cond-true, cond-false, eq-eqb, ne_eqb, eqb-true, cases_eq}
 use Rattle.std.proofs.lemmas.Bool.Decides.{nat_tests}
 use Rattle.std.specs.List.{AllByRecursion as All}
 use Rattle.calendar.specs.declared.date.Date.{Date}
-use Rattle.calendar.specs.Dates.{number, years_before, months_before}
+use Rattle.calendar.specs.Dates.{years_before, months_before}
 use Rattle.daylight.specs.declared.span.MonthDay.{MonthDay}
 use Rattle.daylight.specs.declared.list_rule.Change.{Change}
 use Rattle.daylight.specs.Spans.{before_change, between}
-use Rattle.daylight.specs.Sundays.{sunday, sunday_from, law_daylight}
+use Rattle.daylight.specs.Sundays.{sunday_from, law_daylight}
 use Rattle.daylight.specs.Listed.{list_daylight}
 use Rattle.daylight.specs.Rules.{SundayAmong, Rules}
 

@@ -1,4 +1,6 @@
 // Daylight rules, zones and UTC.
+#![tactic(auto)]
+
 pub mod law_rule;
 pub mod list_rule;
 pub mod rule;

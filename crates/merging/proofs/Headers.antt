@@ -1,5 +1,5 @@
 -- The next line of a header. Assumes nothing.
-use Rattle.std.proofs.Common.{◌≡◌, ℕ, suc, ◌+◌, ◌-◌, List, [], ◌∷◌, ◌++◌, take, sym, refl, ap, ◌∙◌, append_assoc, arith}
+use Rattle.std.proofs.Common.{◌≡◌, ℕ, suc, ◌-◌, List, [], ◌∷◌, ◌++◌, take, sym, ap, ◌∙◌, arith}
 use lib.Seq.{take-nil}
 use Rattle.merging.specs.Headers.{continued_items, header_items}
 use Rattle.reader.specs.Lines.{Piece}

@@ -1,5 +1,5 @@
 -- Merging keeps the items of both sides. Assumes nothing.
-use Rattle.std.proofs.Common.{◌≡◌, Bool, true, false, cond, List, [], ◌∷◌, ◌++◌, map, refl, ap, ◌∙◌}
+use Rattle.std.proofs.Common.{◌≡◌, true, false, cond, List, [], ◌∷◌, ◌++◌, map, refl, ap}
 use Rattle.merging.specs.Merging.{MergedKeeps, Sided, answered, from_header, head_items, is_d, of_header, of_line, own_items}
 use Rattle.reader.specs.Lines.{Piece}
 

@@ -1,5 +1,5 @@
--- The items of a.B header, which stands on an opening line and its continuations.
-use Rattle.std.specs.Prelude.{◌≡◌, ℕ, ◌+◌, List, [], ◌∷◌, ◌++◌, take, drop, Some, None, Option, MatchOption}
+-- The items of a .B header, which stands on an opening line and its continuations.
+use Rattle.std.specs.Prelude.{◌≡◌, ◌+◌, List, [], ◌∷◌, ◌++◌, take, drop, Some, None, Option, MatchOption}
 use Rattle.items.specs.declared.cut.Item.{Item}
 use Rattle.merging.specs.declared.heading.Header.{Header}
 use Rattle.items.specs.Items.{message_items}

@@ -1,5 +1,5 @@
--- The items of a.B body line, merged with those of its header.
-use Rattle.std.specs.Prelude.{◌≡◌, ℕ, ◌<◌, Bool, true, false, cond, not, List, [], ◌∷◌, ◌++◌, map, length, Option, MatchOption, ◌==◌}
+-- The items of a .B body line, merged with those of its header.
+use Rattle.std.specs.Prelude.{◌≡◌, ℕ, ◌<◌, Bool, false, cond, List, [], ◌∷◌, ◌++◌, map, length, Option, MatchOption, ◌==◌}
 use Rattle.items.specs.declared.cut.Item.{Item}
 use Rattle.merging.specs.declared.heading.Header.{Header as Heading}
 use Rattle.merging.specs.declared.merge.Merged.{Merged}

@@ -1,4 +1,6 @@
 // The items of a .B header, and those of a body line merged with them.
+#![tactic(auto)]
+
 ghost use Rattle.merging.specs.Merging.{MergedKeeps};
 
 mod heading;

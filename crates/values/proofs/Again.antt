@@ -1,5 +1,5 @@
 -- What was written is read again.
-use Rattle.std.proofs.Common.{◌≡◌, ℕ, ◌+◌, ◌-◌, ◌<◌, true, false, ◌&&◌, ◌||◌, eqb, List, [], ◌∷◌, ◌++◌, length, get_or, take, ℤ, Some, None, Ok, Option, refl, ap, ◌∙◌, subst, append-nil, arith, length-append}
+use Rattle.std.proofs.Common.{◌≡◌, ℕ, ◌-◌, ◌<◌, true, false, ◌&&◌, ◌||◌, eqb, List, [], ◌∷◌, ◌++◌, length, get_or, take, ℤ, Some, None, Ok, Option, refl, ap, ◌∙◌, subst, append-nil, arith, length-append}
 use Rattle.std.specs.List.{AllByRecursion as All}
 use Rattle.std.specs.Str.{bytes_eq}
 use Rattle.std.proofs.lemmas.List.{get_or_at, take_at}
@@ -12,7 +12,7 @@ use Rattle.quantity.specs.declared.units.Units.{Units}
 use Rattle.quantity.specs.declared.units.Units.TheVariants.{English}
 use Rattle.values.specs.Numbers.{amount_of}
 use Rattle.values.specs.Reading.{last_of, qualifier_of, number_of, value_in, qualified_by, amount_read, read_for}
-use Rattle.values.specs.Writing.{figure, written}
+use Rattle.values.specs.Writing.{figure}
 use Rattle.values.specs.Laws.{Held, ReadsBack, ReadsAlone}
 use Rattle.values.proofs.Back.{Mark, figure-marks, some-figure, stands_for, trimmed, small, known, amount-figure}
 

@@ -25,7 +25,7 @@ pub fn parse_value(column: &[u8]) -> Option<Value>
 {
     let amount = amount_of(trim_start(column))?;
     let value = value_from(amount)?;
-    if column == value_text(value) {
+    if column == value_text(value).as_slice() {
         Some(value)
     } else {
         None

@@ -1,4 +1,6 @@
 // Values as messages write them and as records show them: reading, conversion to English units, and writing.
+#![tactic(auto)]
+
 pub mod column;
 mod convert;
 pub mod laws;

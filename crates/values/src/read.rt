@@ -40,7 +40,7 @@ fn number_of(value: &[u8]) -> &[u8]
 fn is_missing(value: &[u8]) -> bool
     ensures { result ≡ is_missing value.now }
 {
-    value == b"M" || value == b"MM"
+    value == b"M".as_slice() || value == b"MM".as_slice()
 }
 
 fn knows_trace(first: u8, second: u8) -> bool
@@ -114,7 +114,7 @@ fn read_for(value: &[u8], element: Element, units: Units) -> Result<Quantity, Va
             value: Value::Missing,
             qualifier: Qualifier { letter: b'Z' },
         })
-    } else if value == b"T" {
+    } else if value == b"T".as_slice() {
         read_trace(element)
     } else {
         read_amount(value, element, units)

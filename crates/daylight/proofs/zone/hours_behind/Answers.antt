@@ -26,6 +26,6 @@ pub returns-in-76 : goal.returns-in-76
 unfolding hours_of
 returns-in-76 c = search rules
 
-pub returns-in-default : goal.returns-in-default
+pub returns-in_default : goal.returns-in_default
 unfolding hours_of
-returns-in-default c = search rules
+returns-in_default c = search rules

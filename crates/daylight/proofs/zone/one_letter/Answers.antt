@@ -6,9 +6,9 @@ pub returns : goal.returns
 unfolding one_letter
 returns c = search rules
 
-pub returns-in-err-hours : goal.returns-in-err-hours
+pub returns-in_err-hours : goal.returns-in_err-hours
 unfolding one_letter
-returns-in-err-hours c = search rules
+returns-in_err-hours c = search rules
 
 pub returns-then-letter-eq90 : goal.returns-then-letter-eq90
 unfolding one_letter

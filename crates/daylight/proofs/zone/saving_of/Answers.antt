@@ -10,6 +10,6 @@ pub returns-in-68 : goal.returns-in-68
 unfolding saving_of
 returns-in-68 c = search rules
 
-pub returns-in-default : goal.returns-in-default
+pub returns-in_default : goal.returns-in_default
 unfolding saving_of
-returns-in-default c = search rules
+returns-in_default c = search rules

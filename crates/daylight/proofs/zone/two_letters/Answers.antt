@@ -6,10 +6,10 @@ pub returns : goal.returns
 unfolding two_letters
 returns c = search rules
 
-pub returns-in-err-hours : goal.returns-in-err-hours
+pub returns-in_err-hours : goal.returns-in_err-hours
 unfolding two_letters
-returns-in-err-hours c = search rules
+returns-in_err-hours c = search rules
 
-pub returns-in-err-saving : goal.returns-in-err-saving
+pub returns-in_err-saving : goal.returns-in_err-saving
 unfolding two_letters
-returns-in-err-saving c = search rules
+returns-in_err-saving c = search rules

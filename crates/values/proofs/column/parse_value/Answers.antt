@@ -7,22 +7,22 @@ use Rattle.values.specs.Numbers.{amount_of}
 use Rattle.values.proofs.Strict.{no_amount, no_value, same_value}
 use Rattle.values.proofs.column.parse_value.Goals as goal
 
-pub returns-in-err-amount : goal.returns-in-err-amount
-returns-in-err-amount c =
-    rw c.from_residual.ensures (λ v is. no_amount c.args.column.now v is (c.in-err-amount.ensures.value ∙ ap amount_of c.trim-start.ensures))
+pub returns-in_err-amount : goal.returns-in_err-amount
+returns-in_err-amount c =
+    rw c.from_residual.ensures (λ v is. no_amount c.args.column.now v is (c.in_err-amount.ensures.value ∙ ap amount_of c.trim_start.ensures))
 
-pub returns-in-err-value : goal.returns-in-err-value
-returns-in-err-value c =
-    let z = c.in-ok-amount.amount in
+pub returns-in_err-value : goal.returns-in_err-value
+returns-in_err-value c =
+    let z = c.in_ok-amount.amount in
     let fits : SFits w64 z = search rules in
-    rw c.from_residual-in-err-value.ensures (λ v is. no_value c.args.column.now v is z _ (to_z-of_z w64 z fits) (c.in-ok-amount.ensures.value ∙ ap amount_of c.trim-start.ensures) c.in-err-value.ensures)
+    rw c.from_residual-in_err-value.ensures (λ v is. no_value c.args.column.now v is z _ (to_z-of_z w64 z fits) (c.in_ok-amount.ensures.value ∙ ap amount_of c.trim_start.ensures) c.in_err-value.ensures)
 
 pub returns-then-eq : goal.returns-then-eq
-returns-then-eq c = (slice_eq-Decides Decides-eqb _ _ _ c.eq.ensures).0 c.if-eq.true ∙ c.value-text.ensures
+returns-then-eq c = (slice_eq-Decides Decides-eqb _ _ _ c.eq.ensures).0 c.if-eq.true ∙ c.as_slice.ensures ∙ c.value_text.ensures
 
 pub returns-else-eq : goal.returns-else-eq
 returns-else-eq c v is =
-    let z = c.in-ok-amount.amount in
+    let z = c.in_ok-amount.amount in
     let fits : SFits w64 z = search rules in
-    let e = same_value c.args.column.now v is z _ (to_z-of_z w64 z fits) (value_of c.in-ok-value.value) (c.in-ok-amount.ensures.value ∙ ap amount_of c.trim-start.ensures) c.in-ok-value.ensures in
-    not_from_Decides _ (slice_eq-Decides Decides-eqb _ _ _ c.eq.ensures) c.if-eq.false (e ∙ sym c.value-text.ensures)
+    let e = same_value c.args.column.now v is z _ (to_z-of_z w64 z fits) (value_of c.in_ok-value.value) (c.in_ok-amount.ensures.value ∙ ap amount_of c.trim_start.ensures) c.in_ok-value.ensures in
+    not_from_Decides _ (slice_eq-Decides Decides-eqb _ _ _ c.eq.ensures) c.if-eq.false (e ∙ sym (c.as_slice.ensures ∙ c.value_text.ensures))

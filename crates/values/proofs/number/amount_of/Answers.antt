@@ -19,16 +19,16 @@ returns-in-None c =
     let first : get_or s 0 0 ≡ 45 = omega arith in
     record { value = ap (option_map negated) c.in-None.ensures.value ∙ minus s first; small = tt }
 
-pub returns-in-Some-size-of : goal.returns-in-Some-size-of
-returns-in-Some-size-of c =
+pub returns-in-Some-size_of : goal.returns-in-Some-size_of
+returns-in-Some-size_of c =
     let s = c.args.number.now in
-    let n = c.in-Some-size-of.size in
+    let n = c.in-Some-size_of.size in
     let first : get_or s 0 0 ≡ 43 = omega arith in
-    let e : to_z w64 n ≡ pos n = omega (arith, ints, c.in-Some-size-of.ensures.small) in
-    record { value = ap Some e ∙ ap (option_map pos) c.in-Some-size-of.ensures.value ∙ plus s first; small = subst (λ z. nat_abs z < 10 ^ 12) (sym e) c.in-Some-size-of.ensures.small }
+    let e : to_z w64 n ≡ pos n = omega (arith, ints, c.in-Some-size_of.ensures.small) in
+    record { value = ap Some e ∙ ap (option_map pos) c.in-Some-size_of.ensures.value ∙ plus s first; small = subst (λ z. nat_abs z < 10 ^ 12) (sym e) c.in-Some-size_of.ensures.small }
 
-pub returns-in-None-size-of : goal.returns-in-None-size-of
-returns-in-None-size-of c =
+pub returns-in-None-size_of : goal.returns-in-None-size_of
+returns-in-None-size_of c =
     let s = c.args.number.now in
     let first : get_or s 0 0 ≡ 43 = omega arith in
-    record { value = ap (option_map pos) c.in-None-size-of.ensures.value ∙ plus s first; small = tt }
+    record { value = ap (option_map pos) c.in-None-size_of.ensures.value ∙ plus s first; small = tt }

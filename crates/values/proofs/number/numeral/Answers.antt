@@ -3,19 +3,19 @@ use Rattle.std.proofs.lemmas.Bool.Decides.{nat_tests}
 use Rattle.values.proofs.Turns.{longer, capped, digits_more, said_more, digits_bad, numeral_all}
 use Rattle.values.proofs.number.numeral.Goals as goal
 
-pub overflow-mul-n : goal.overflow-mul-n
-overflow-mul-n c = let b = capped _ _ 8 c.loop-b.invariant.0 (omega arith) in search rules
+pub overflow_mul-n : goal.overflow_mul-n
+overflow_mul-n c = let b = capped _ _ 8 c.loop-b.invariant.0 (omega arith) in search rules
 
-pub overflow-add-n : goal.overflow-add-n
-overflow-add-n c = let b = capped _ _ 8 c.loop-b.invariant.0 (omega arith) in search rules
+pub overflow_add-n : goal.overflow_add-n
+overflow_add-n c = let b = capped _ _ 8 c.loop-b.invariant.0 (omega arith) in search rules
 
-pub returns-then-not-is-digit : goal.returns-then-not-is-digit
-returns-then-not-is-digit c =
-    record { value = digits_bad c.args.digits.now c.loop-b.b-index c.loop-b-test.true c.args.most c.loop-b.invariant.1 (sym c.is-digit.ensures ∙ c.if-not-is-digit.true); small = tt }
+pub returns-then-not-is_digit : goal.returns-then-not-is_digit
+returns-then-not-is_digit c =
+    record { value = digits_bad c.args.digits.now c.loop-b.b-index c.loop-b-test.true c.args.most c.loop-b.invariant.1 (sym c.is_digit.ensures ∙ c.if-not-is_digit.true); small = tt }
 
 pub loop-b-preserved : goal.loop-b-preserved
 loop-b-preserved c =
-    let t = sym c.is-digit.ensures ∙ c.if-not-is-digit.false in
+    let t = sym c.is_digit.ensures ∙ c.if-not-is_digit.false in
     let s = c.args.digits.now in
     let i = c.loop-b.b-index in
     let d : get_or s i 0 - 48 < 10 = grind (arith, nat_tests) in

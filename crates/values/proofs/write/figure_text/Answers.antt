@@ -8,8 +8,8 @@ use Rattle.values.proofs.write.figure_text.Goals as goal
 pub loop-n-init : goal.loop-n-init
 loop-n-init c = record { left = 7; at = refl; room = omega arith; below = omega arith; long = refl; blank = refl; rest = refl }
 
-pub overflow-sub-p : goal.overflow-sub-p
-overflow-sub-p c = omega (arith, c.loop-n.invariant.at)
+pub overflow_sub-p : goal.overflow_sub-p
+overflow_sub-p c = omega (arith, c.loop-n.invariant.at)
 
 pub bounds-text-p : goal.bounds-text-p
 bounds-text-p c = omega (arith, c.loop-n.invariant.at, c.loop-n.invariant.room)
@@ -17,14 +17,14 @@ bounds-text-p c = omega (arith, c.loop-n.invariant.at, c.loop-n.invariant.room)
 pub loop-n-preserved : goal.loop-n-preserved
 loop-n-preserved c = held_again c.args.size c.loop-n.text c.loop-n.p c.loop-n.n c.loop-n.invariant c.loop-n-test.true
 
-pub overflow-sub-p-2 : goal.overflow-sub-p-2
-overflow-sub-p-2 c = omega (arith, c.loop-n.invariant.at)
+pub overflow_sub-p-2 : goal.overflow_sub-p-2
+overflow_sub-p-2 c = omega (arith, c.loop-n.invariant.at)
 
 pub bounds-text-p-2 : goal.bounds-text-p-2
 bounds-text-p-2 c = omega (arith, c.loop-n.invariant.at, c.loop-n.invariant.room)
 
-pub overflow-sub-text : goal.overflow-sub-text
-overflow-sub-text c = omega (arith, c.loop-n.invariant.at)
+pub overflow_sub-text : goal.overflow_sub-text
+overflow_sub-text c = omega (arith, c.loop-n.invariant.at)
 
 pub bounds-text-p-then-negative : goal.bounds-text-p-then-negative
 bounds-text-p-then-negative c = omega (arith, c.loop-n.invariant.at, c.loop-n.invariant.room)

@@ -13,4 +13,4 @@ pub returns-in-Known : goal.returns-in-Known
 returns-in-Known c =
     let z = c.in-Known.amount.tenthousandths in
     let fits : SFits w64 z = search rules in
-    c.figure-text.ensures ∙ figured _ c.unsigned-abs.result c.unsigned-abs.ensures.value ∙ ap (λ y. written (Some y)) (to_z-of_z w64 z fits) ∙ sym (ap (λ v. written (value_of v)) c.in-Known.is)
+    c.figure_text.ensures ∙ figured _ c.unsigned_abs.result c.unsigned_abs.ensures.value ∙ ap (λ y. written (Some y)) (to_z-of_z w64 z fits) ∙ sym (ap (λ v. written (value_of v)) c.in-Known.is)

@@ -1,7 +1,6 @@
-use Rattle.std.proofs.Common.{◌≡◌, ℕ, ◌+◌, Bool, false, cond, eqb, List, [], length, get_or, drop, sym, refl, ◌∙◌}
+use Rattle.std.proofs.Common.{◌+◌, get_or, drop, sym, ◌∙◌}
 use Rattle.std.proofs.lemmas.List.{at_drop_more, at_drop_all}
 use Rattle.std.proofs.lemmas.Bool.{cond-true, cond-false, eq-eqb, ne_eqb}
-use Rattle.calendar.specs.declared.date.Date.{Date}
 use Rattle.daylight.specs.declared.list_rule.Change.{Change}
 use Rattle.daylight.specs.Listed.{list_daylight}
 use Rattle.daylight.specs.Spans.{between}
@@ -15,7 +14,7 @@ returns-then-change-reading c =
     let xs = c.args.self.now.changes.now in
     let i = c.loop-change.change-index in
     let r = c.args.reading in
-    c.is-between.ensures
+    c.is_between.ensures
     ∙ sym (cond-true _ _ (list_daylight (drop (i + 1) xs) r) (eq-eqb (get_or xs i blank).year r.0.year c.if-change-reading.true))
     ∙ sym (at_drop_more (λ cs. list_daylight cs r) xs i blank c.loop-change-test.true)
     ∙ c.loop-change.invariant

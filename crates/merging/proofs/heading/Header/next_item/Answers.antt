@@ -2,14 +2,14 @@ use Rattle.std.proofs.Common.{◌∙◌}
 use Rattle.merging.proofs.Headers.{no_more, next-line}
 use Rattle.merging.proofs.heading.Header.next_item.Goals as goal
 
-pub returns-in-default-next-line : goal.returns-in-default-next-line
-returns-in-default-next-line c =
-    let items = c.in-default.ensures in
-    let lines = c.in-default-next-line.ensures.1 in
+pub returns-in_default-next_line : goal.returns-in_default-next_line
+returns-in_default-next_line c =
+    let items = c.in_default.ensures in
+    let lines = c.in_default-next_line.ensures.1 in
     (c.loop-item.invariant ∙ no_more _ c.loop-item.self.left _ items.0 lines.0, no_more _ c.loop-item.self.left _ items.1 lines.1)
 
 pub loop-item-preserved : goal.loop-item-preserved
 loop-item-preserved c =
-    let gave = c.in-Some-next-line.ensures.1 in
+    let gave = c.in-Some-next_line.ensures.1 in
     c.loop-item.invariant
-    ∙ next-line _ _ c.loop-item.self.left _ _ _ c.in-default.ensures.0 c.if-self-eq0.false gave.next (c.continued-items-self.ensures gave.fits)
+    ∙ next-line _ _ c.loop-item.self.left _ _ _ c.in_default.ensures.0 c.if-self-eq0.false gave.next (c.continued_items-self.ensures gave.fits)
