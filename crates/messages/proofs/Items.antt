@@ -85,7 +85,7 @@ pub a_no_code : (S : Setting) (m : Common) (p : Reached) (item : List ℕ) {word
 unfolding item_of_a
 a_no_code S m p item h k s w = way_3 _ _ _ h k (stops _ (w ∙ ap (λ (x : List ℕ × List ℕ). code_read x.0) s))
 
--- a value of a.B body line
+-- a value of a .B body line
 pub body_record : (S : Setting) (m : Common) (p : Reached) (item : List ℕ) {code : List ℕ} {e : Entry} → false ≡ is_empty item → false ≡ is_d item → p.code ≡ Some code → Ok e ≡ valued S.daylight m p.terms code item Single 0 → Ok (with_code p None, Some e) ≡ item_of_body S m p item
 unfolding item_of_body
 body_record S m p item h k o v =

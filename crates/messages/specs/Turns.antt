@@ -115,13 +115,13 @@ code_or_step S m p (Some code) item = step_of_e S.daylight m p code item
 unfoldable pub item_of_e : Setting → Common → Reached → List ℕ → Turned
 item_of_e S m p item = cond (is_d item) (d_item S m p (stage_of p.steps) item) (code_or_step S m p p.code item)
 
--- an item of a.B header: nothing, a D item, or a code for the line's next value
+-- an item of a .B header: nothing, a D item, or a code for the line's next value
 unfoldable pub item_of_header : Setting → Common → Reached → List ℕ → Turned
 item_of_header S m p item =
     cond (is_empty item) (silent p)
     (cond (is_d item) (d_item S m p Free item) (then_ok (code_read item) (λ code. silent (with_code p (Some code)))))
 
--- an item of a.B body line: an empty item or a value uses up the code
+-- an item of a .B body line: an empty item or a value uses up the code
 unfoldable pub item_of_body : Setting → Common → Reached → List ℕ → Turned
 item_of_body S m p item =
     cond (is_empty item) (silent (with_code p None))

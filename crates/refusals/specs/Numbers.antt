@@ -33,7 +33,7 @@ number_of (refusal.Item Value) = 10
 number_of (refusal.Item TooLarge) = 11
 -- the observation time is no time, or outside 1900 to 2099 in UTC
 number_of (refusal.Item NoTime) = 12
--- a.B message is not finished
+-- a .B message is not finished
 number_of (refusal.Message Unfinished) = 13
 -- the sink has no room
 number_of NoRoom = 14

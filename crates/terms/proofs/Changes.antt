@@ -8,7 +8,7 @@ use Rattle.daylight.specs.declared.zone.Zone.{Zone}
 use Rattle.ditems.specs.Moves.{move_of}
 use Rattle.ditems.specs.Times.{time_item}
 use Rattle.ditems.proofs.Somes.{none-some, some_same, mapped_some, when-some}
-use Rattle.terms.specs.declared.stage.Stage as theStage
+use Rattle.terms.specs.declared.stage.Stage as the_stage
 use Rattle.terms.specs.declared.stage.Stage.TheVariants.{Free, BeforeSteps, AmongSteps}
 use Rattle.terms.specs.Created.{created_of}
 use Rattle.terms.specs.Items.{kind_item, after_item}
@@ -55,19 +55,19 @@ variable_one (u ∷ a ∷ b ∷ []) s t e =
     lasting_one (Some p.0) s t p.2
 variable_one (u ∷ a ∷ b ∷ c ∷ rest) s t e = absurd (none-some t e)
 
-relative_one : (stage : theStage.Stage) (rest : List ℕ) (s t : Standing) → relative_item stage rest s ≡ Some t → t ≡ moved_by s t.relative
+relative_one : (stage : the_stage.Stage) (rest : List ℕ) (s t : Standing) → relative_item stage rest s ≡ Some t → t ≡ moved_by s t.relative
 unfolding relative_item
 relative_one stage rest s t e =
     let p = mapped_some (λ (m : Move). moved_by s (Some m)) (move_of rest) t (unless (among_steps stage) _ t e) in
     put (moved_by s) (λ (x : Standing). x.relative) (λ a. refl) (Some p.0) t p.2
 
-interval_one : (stage : theStage.Stage) (rest : List ℕ) (s t : Standing) → interval_item stage rest s ≡ Some t → t ≡ every s t.interval
+interval_one : (stage : the_stage.Stage) (rest : List ℕ) (s t : Standing) → interval_item stage rest s ≡ Some t → t ≡ every s t.interval
 unfolding interval_item
 interval_one stage rest s t e =
     let p = mapped_some (λ (m : Move). every s (Some m)) (move_of rest) t (only_if (before_steps stage) _ t e) in
     put (every s) (λ (x : Standing). x.interval) (λ a. refl) (Some p.0) t p.2
 
-clock_one : (cur : ℕ) (stage : theStage.Stage) (letter : ℕ) (rest : List ℕ) (s t : Standing) → clock_item cur stage letter rest s ≡ Some t → t ≡ at_groups s t.groups
+clock_one : (cur : ℕ) (stage : the_stage.Stage) (letter : ℕ) (rest : List ℕ) (s t : Standing) → clock_item cur stage letter rest s ≡ Some t → t ≡ at_groups s t.groups
 unfolding clock_item
 clock_one cur stage letter rest s t e =
     let p = mapped_some (at_groups s) (time_item s.groups letter cur rest) t (unless (among_steps stage) _ t e) in
@@ -97,7 +97,7 @@ either t o1 o2 o3 o4 o5 o6 P h1 h2 h3 h4 h5 h6 false false false true i e = h4 e
 either t o1 o2 o3 o4 o5 o6 P h1 h2 h3 h4 h5 h6 false false false false true e = h5 e
 either t o1 o2 o3 o4 o5 o6 P h1 h2 h3 h4 h5 h6 false false false false false e = h6 e
 
-pub one_term : (today : Date) (daylight : Date × ℕ → Bool) (zone : Zone) (stage : theStage.Stage) (letter : ℕ) (rest : List ℕ) (s t : Standing)
+pub one_term : (today : Date) (daylight : Date × ℕ → Bool) (zone : Zone) (stage : the_stage.Stage) (letter : ℕ) (rest : List ℕ) (s t : Standing)
     → after_item today daylight zone stage (68 ∷ letter ∷ rest) s ≡ Some t → t ≡ except_one letter s t
 unfolding after_item kind_item
 one_term today daylight zone stage letter rest s t e =
@@ -109,7 +109,7 @@ one_term today daylight zone stage letter rest s t e =
 same_time : (s t x : Standing) → t ≡ x → SameTime s x → SameTime s t
 same_time s t x e p = subst (SameTime s) (sym e) p
 
-kind_of_lem : (today : Date) (daylight : Date × ℕ → Bool) (zone : Zone) (stage : theStage.Stage) (item : List ℕ) (s t : Standing) (P : Type 0)
+kind_of_lem : (today : Date) (daylight : Date × ℕ → Bool) (zone : Zone) (stage : the_stage.Stage) (item : List ℕ) (s t : Standing) (P : Type 0)
     → ((letter : ℕ) (rest : List ℕ) → kind_item today daylight zone stage letter rest s ≡ Some t → P) → after_item today daylight zone stage item s ≡ Some t → P
 unfolding after_item
 kind_of_lem today daylight zone stage [] s t P h e = absurd (none-some t e)
@@ -166,13 +166,13 @@ no_interval today daylight zone item s t e =
     (eqb letter 67) (eqb letter 85) (eqb letter 86) (eqb letter 82) (eqb letter 73) k)
     e
 
-abbrev relative : theStage.Stage → Option Move → Standing → Option Standing
+abbrev relative : the_stage.Stage → Option Move → Standing → Option Standing
 relative stage m s = cond (among_steps stage) None (option_map (λ x. moved_by s (Some x)) m)
 
-abbrev interval : theStage.Stage → Option Move → Standing → Option Standing
+abbrev interval : the_stage.Stage → Option Move → Standing → Option Standing
 interval stage m s = cond (before_steps stage) (option_map (λ x. every s (Some x)) m) None
 
-order : (stage : theStage.Stage) (a b : Option Move) (s : Standing)
+order : (stage : the_stage.Stage) (a b : Option Move) (s : Standing)
     → and_then (relative stage a s) (λ t. interval stage b t) ≡ and_then (interval stage b s) (λ t. relative stage a t)
 order Free None b s = refl
 order Free (Some m) b s = refl
@@ -182,7 +182,7 @@ order BeforeSteps (Some m) None s = refl
 order BeforeSteps (Some m) (Some n) s = refl
 order AmongSteps a b s = refl
 
-pub either_order : (today : Date) (daylight : Date × ℕ → Bool) (zone : Zone) (stage : theStage.Stage) (a b : List ℕ) (s : Standing)
+pub either_order : (today : Date) (daylight : Date × ℕ → Bool) (zone : Zone) (stage : the_stage.Stage) (a b : List ℕ) (s : Standing)
     → and_then (after_item today daylight zone stage (68 ∷ 82 ∷ a) s) (λ t. after_item today daylight zone stage (68 ∷ 73 ∷ b) t)
     ≡ and_then (after_item today daylight zone stage (68 ∷ 73 ∷ b) s) (λ t. after_item today daylight zone stage (68 ∷ 82 ∷ a) t)
 unfolding after_item kind_item relative_item interval_item

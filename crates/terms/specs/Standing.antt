@@ -4,7 +4,7 @@ use Rattle.std.specs.Option.{option_map}
 use Rattle.calendar.specs.declared.date.Date.{Date}
 use Rattle.instants.specs.declared.moves.Move.{Move}
 use Rattle.daylight.specs.declared.zone.Zone.{Zone}
-use Rattle.quantity.specs.declared.units.Units as theUnits
+use Rattle.quantity.specs.declared.units.Units as the_units
 use Rattle.quantity.specs.declared.units.Units.TheVariants.{English, Si}
 use Rattle.ditems.specs.declared.groups.Groups.{Groups}
 use Rattle.ditems.specs.Groups.{groups_at}
@@ -14,7 +14,7 @@ use Rattle.terms.specs.declared.terms.Terms.{Terms}
 pub record Standing : Type 0 where
   pub groups : Groups
   pub created : Option (Date × ℕ)
-  pub units : theUnits.Units
+  pub units : the_units.Units
   pub variable : Option ℕ
   pub relative : Option Move
   pub interval : Option Move

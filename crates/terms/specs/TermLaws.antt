@@ -6,7 +6,7 @@ use Rattle.calendar.specs.Dates.{message_day}
 use Rattle.calendar.specs.Ways.{and_then}
 use Rattle.daylight.specs.declared.zone.Zone.{Zone}
 use Rattle.ditems.specs.Readings.{reading_of}
-use Rattle.terms.specs.declared.stage.Stage as theStage
+use Rattle.terms.specs.declared.stage.Stage as the_stage
 use Rattle.terms.specs.declared.stage.Stage.TheVariants.{Free, AmongSteps}
 use Rattle.terms.specs.Created.{utc_of}
 use Rattle.terms.specs.Items.{after_item}
@@ -31,7 +31,7 @@ pub record SameTime (s t : Standing) : Type 0 where
 
 pub record TermLaws : Type 0 where
   -- an item changes the one term of its kind and leaves the others alone
-  pub one_term : (today : Date) (daylight : Date × ℕ → Bool) (zone : Zone) (stage : theStage.Stage) (letter : ℕ) (rest : List ℕ) (s t : Standing)
+  pub one_term : (today : Date) (daylight : Date × ℕ → Bool) (zone : Zone) (stage : the_stage.Stage) (letter : ℕ) (rest : List ℕ) (s t : Standing)
       → after_item today daylight zone stage (68 ∷ letter ∷ rest) s ≡ Some t → t ≡ except_one letter s t
   -- from the first step on no item changes the time, the relative move or the interval
   pub among_steps_lem : (today : Date) (daylight : Date × ℕ → Bool) (zone : Zone) (item : List ℕ) (s t : Standing)
@@ -40,7 +40,7 @@ pub record TermLaws : Type 0 where
   pub no_interval : (today : Date) (daylight : Date × ℕ → Bool) (zone : Zone) (item : List ℕ) (s t : Standing)
       → after_item today daylight zone Free item s ≡ Some t → t.interval ≡ s.interval
   -- a DR (82) and a DI (73) item may come in either order
-  pub either_order : (today : Date) (daylight : Date × ℕ → Bool) (zone : Zone) (stage : theStage.Stage) (a b : List ℕ) (s : Standing)
+  pub either_order : (today : Date) (daylight : Date × ℕ → Bool) (zone : Zone) (stage : the_stage.Stage) (a b : List ℕ) (s : Standing)
       → and_then (after_item today daylight zone stage (68 ∷ 82 ∷ a) s) (λ t. after_item today daylight zone stage (68 ∷ 73 ∷ b) t)
       ≡ and_then (after_item today daylight zone stage (68 ∷ 73 ∷ b) s) (λ t. after_item today daylight zone stage (68 ∷ 82 ∷ a) t)
   -- a message opens at 12:00 in UTC and at 24:00 elsewhere, on its date

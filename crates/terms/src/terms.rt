@@ -1,6 +1,6 @@
 // The terms that stand for the next value of a message.
 ghost use Rattle.std.specs.Prelude.{◌≡◌};
-ghost use Rattle.terms.specs.Standing.{standing, opening as theOpening};
+ghost use Rattle.terms.specs.Standing.{standing, opening as the_opening};
 
 use calendar::date::Date;
 use daylight::zone::Zone;
@@ -23,7 +23,7 @@ pub struct Terms {
 impl Terms {
     // The terms of a message at its date: 12:00 in UTC, 24:00 in other zones.
     pub fn opening(date: Date, zone: Zone) -> Terms
-        ensures { standing result ≡ theOpening date zone }
+        ensures { standing result ≡ the_opening date zone }
     {
         Terms {
             groups: Groups::new(date, if zone.hours == 0 { 12 } else { 24 }),

@@ -5,10 +5,10 @@ use Rattle.terms.specs.Settings.{variable_item}
 use Rattle.terms.proofs.Variables.{variable_clear, variable_set}
 use Rattle.terms.proofs.terms.Terms.with_variable.Goals as goal
 
-pub returns-in_err-variable : goal.returns-in_err-variable
-returns-in_err-variable c =
+pub returns-in_err-variable-in-len3 : goal.returns-in_err-variable-in-len3
+returns-in_err-variable-in-len3 c =
     let three : length c.args.rest.now ≡ 3 = search rules in
-    ap (option_map standing) c.from_residual.ensures ∙ variable_set c.args.rest.now (standing c.args.self) None three c.in_err-variable.ensures
+    ap (option_map standing) c.from_residual.ensures ∙ variable_set c.args.rest.now (standing c.args.self) None three c.in_err-variable-in-len3.ensures
 
 pub returns-in-90 : goal.returns-in-90
 returns-in-90 c =
@@ -16,10 +16,10 @@ returns-in-90 c =
     let is : get_or c.args.rest.now 0 0 ≡ 90 = search rules in
     variable_clear c.args.rest.now (standing c.args.self) one is
 
-pub returns-in_ok-variable : goal.returns-in_ok-variable
-returns-in_ok-variable c =
+pub returns-in_ok-variable-in-len3 : goal.returns-in_ok-variable-in-len3
+returns-in_ok-variable-in-len3 c =
     let three : length c.args.rest.now ≡ 3 = search rules in
-    variable_set c.args.rest.now (standing c.args.self) (Some c.in_ok-variable.variable.number) three c.in_ok-variable.ensures
+    variable_set c.args.rest.now (standing c.args.self) (Some c.in_ok-variable-in-len3.variable.number) three c.in_ok-variable-in-len3.ensures
 
 pub returns-in_default : goal.returns-in_default
 unfolding variable_item
