@@ -1,4 +1,6 @@
 // A table of dates and times, one line to a case.
+#![tactic(auto)]
+
 use calendar_table::{days, messages};
 use std::io;
 

@@ -1,12 +1,11 @@
 -- Bounds of readings. Assumes nothing.
-use Rattle.std.proofs.Common.{◌≡◌, ℕ, ◌+◌, ◌*◌, ◌≤◌, Bool, true, false, cond, ◌&&◌, ltb, leb, Some, None, Option, sym, refl, ap, ◌∙◌, subst, arith}
+use Rattle.std.proofs.Common.{◌≡◌, ℕ, ◌+◌, ◌*◌, ◌≤◌, true, ◌&&◌, ltb, leb, Some, sym, ap, ◌∙◌, subst, arith}
 use Rattle.std.proofs.lemmas.Bool.{and_parts, leb-true}
 use Rattle.std.specs.Option.{option_map}
 use Rattle.calendar.specs.declared.date.Date.{Date}
 use Rattle.calendar.specs.Dates.{message_day}
 use Rattle.calendar.specs.Messages.{candidate}
 use Rattle.ditems.specs.declared.groups.Groups.{Groups}
-use Rattle.ditems.specs.Groups.{when}
 use Rattle.ditems.specs.Readings.{day_of, second_of, reading_of}
 use Rattle.ditems.proofs.Somes.{then_some, mapped_some, when-some}
 

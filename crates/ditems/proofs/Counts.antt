@@ -1,9 +1,8 @@
 -- Counts and moves, from their parts. Assumes nothing.
-use Rattle.std.proofs.Common.{◌≡◌, ℕ, ◌<◌, Bool, List, [], ◌∷◌, length, get_or, ℤ, Some, None, Option, sym, refl, ap, ◌∙◌}
+use Rattle.std.proofs.Common.{◌≡◌, ℕ, ◌<◌, Bool, List, length, get_or, ℤ, Some, None, Option, sym, ap, ◌∙◌}
 use Rattle.std.specs.Option.{option_map}
 use Rattle.std.specs.List.{between}
 use Rattle.std.proofs.lemmas.Slice.{first_rest}
-use Rattle.instants.specs.declared.moves.Move.{Move}
 use Rattle.instants.specs.declared.moves.Unit.{Unit as MoveUnit}
 use Rattle.calendar.specs.Ways.{and_then}
 use Rattle.ditems.specs.Moves.{unit_of, figures, is_back, less_sign, directed, count_of, move_by, move_of}

@@ -1,5 +1,5 @@
 -- Which entries a record can have, field by field.
-use Rattle.std.specs.Prelude.{◌≡◌, ℕ, true, List, ℤ, IfSome}
+use Rattle.std.specs.Prelude.{◌≡◌, true, IfSome}
 use Rattle.instants.specs.Utc.{utc_time, utc_minute}
 use Rattle.quantity.specs.Amounts.{holdable}
 use Rattle.quantity.specs.Codes.{full_code, duration_fits}

@@ -1,4 +1,6 @@
 // The record that a reading becomes, the names of its station and source, and which records there can be.
+#![tactic(auto)]
+
 pub mod laws;
 pub mod record;
 pub mod series;

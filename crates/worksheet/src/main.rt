@@ -1,4 +1,6 @@
 // Prints what codes and values say: the full code with its duration number, then the columns and the qualifier of values, or why they are refused.
+#![tactic(auto)]
+
 use quantity::codes::code_of;
 use quantity::durations::variable_of;
 use quantity::parameters::parameter_of;

@@ -1,4 +1,4 @@
-use Rattle.std.proofs.Common.{◌≡◌, ◌<◌, length, sym, ◌∙◌, arith, w8, SFits, to_z, of_z, rules}
+use Rattle.std.proofs.Common.{◌<◌, length, ◌∙◌, w8, SFits, rules}
 use Rattle.std.proofs.lemmas.Int.{to_z-of_z}
 use Rattle.ditems.specs.Moves.{move_of}
 use Rattle.ditems.proofs.Counts.{move_none, move_some}

@@ -1,4 +1,4 @@
-use Rattle.std.proofs.Common.{◌≡◌, true, false, pos, ◌-ℤ◌, sym, ◌∙◌, arith, w8, to_z, of_z, rules}
+use Rattle.std.proofs.Common.{◌≡◌, true, false, pos, ◌-ℤ◌, sym, ◌∙◌, arith, w8, to_z, of_z}
 use Rattle.std.proofs.lemmas.Int.{ints}
 use Rattle.ditems.specs.Moves.{directed}
 use Rattle.ditems.proofs.Counts.{count_none, count_some}

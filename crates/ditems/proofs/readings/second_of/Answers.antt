@@ -1,4 +1,4 @@
-use Rattle.std.proofs.Common.{arith, rules}
+use Rattle.std.proofs.Common.{arith}
 use Rattle.std.proofs.lemmas.Bool.Decides.{nat_tests}
 use Rattle.ditems.specs.Readings.{second_of}
 use Rattle.ditems.proofs.readings.second_of.Goals as goal

@@ -1,4 +1,4 @@
-use Rattle.std.proofs.Common.{◌≡◌, ◌≤◌, length, get_or, sym, ap, ◌∙◌, rules}
+use Rattle.std.proofs.Common.{◌≤◌, length, get_or, ap, ◌∙◌, rules}
 use Rattle.std.specs.List.{between}
 use Rattle.ditems.specs.Groups.{set_from}
 use Rattle.ditems.proofs.Fronts.{first_two}

@@ -1,4 +1,4 @@
-use Rattle.std.proofs.Common.{◌≡◌, ◌<◌, length, sym, ap, ◌∙◌, rules}
+use Rattle.std.proofs.Common.{◌≡◌, ◌<◌, length, ◌∙◌, rules}
 use Rattle.ditems.proofs.Items.{no_groups, some-groups}
 use Rattle.ditems.proofs.times.some_groups.Goals as goal
 

@@ -1,4 +1,4 @@
-use Rattle.std.proofs.Common.{◌≡◌, sym, ap, ◌∙◌, rules}
+use Rattle.std.proofs.Common.{sym, ap, ◌∙◌}
 use Rattle.ditems.specs.Times.{groups_item}
 use Rattle.ditems.proofs.Items.{item_none, item_some, plain_item}
 use Rattle.ditems.proofs.times.time_item.Goals as goal

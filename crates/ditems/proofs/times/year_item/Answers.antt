@@ -1,4 +1,4 @@
-use Rattle.std.proofs.Common.{◌≡◌, ℕ, ◌<◌, ◌≤◌, length, Some, None, sym, ap, ◌∙◌, rules}
+use Rattle.std.proofs.Common.{◌<◌, ◌≤◌, length, Some, None, ap, ◌∙◌, rules}
 use Rattle.std.specs.List.{between}
 use Rattle.ditems.specs.declared.groups.Groups.{Groups}
 use Rattle.ditems.specs.declared.groups.Group.TheVariants.{Month}

@@ -4,8 +4,8 @@ use Rattle.std.proofs.lemmas.Bool.Decides.{nat_tests}
 use Rattle.record.specs.Stations.{signs}
 use Rattle.record.proofs.station.names.all_signs.Goals as goal
 
-pub returns-then-not-is-sign : goal.returns-then-not-is-sign
-returns-then-not-is-sign c =
+pub returns-then-not-is_sign : goal.returns-then-not-is_sign
+returns-then-not-is_sign c =
     let e = at_drop_more signs c.args.word.now c.loop-b.b-index 0 c.loop-b-test.true in
     grind (arith, nat_tests)
 

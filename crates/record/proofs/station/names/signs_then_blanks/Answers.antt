@@ -1,16 +1,15 @@
-use Rattle.std.proofs.Common.{◌+◌, drop, sym, ap, ◌∙◌, inl, inr, arith}
+use Rattle.std.proofs.Common.{◌+◌, drop, sym, ap, ◌∙◌, inl, inr}
 use Rattle.std.proofs.lemmas.List.{at_drop_more, at_drop_all}
-use Rattle.record.specs.Stations.{signs_then_blanks}
 use Rattle.record.proofs.Names.{rest, rest_blank, rest_sign, rest_other, rest_none}
 use Rattle.record.proofs.station.names.signs_then_blanks.Goals as goal
-use Rattle.record.proofs.station.names.signs_then_blanks.Goals.{then-ended-via-then-ended, then-ended-via-else-ended+then-not-is-sign, then-b-eq32, else-b-eq32+else-ended+else-not-is-sign}
+use Rattle.record.proofs.station.names.signs_then_blanks.Goals.{then-ended-via-then-ended, then-ended-via-else-ended+then-not-is_sign, then-b-eq32, else-b-eq32+else-ended+else-not-is_sign}
 
 pub returns-then-ended : goal.returns-then-ended
 returns-then-ended c =
     let e = at_drop_more (rest c.loop-b.ended) c.args.text.now c.loop-b.b-index 0 c.loop-b-test.true in
     elim c.then-ended.branch [
       | then-ended-via-then-ended w ↦ sym (e ∙ rest_other _ _ _ c.if-b-eq32.false (inl w.if-ended.true)) ∙ c.loop-b.invariant
-      | then-ended-via-else-ended+then-not-is-sign w ↦ sym (e ∙ rest_other _ _ _ c.if-b-eq32.false (inr (sym w.if-not-is-sign.ensures))) ∙ c.loop-b.invariant
+      | then-ended-via-else-ended+then-not-is_sign w ↦ sym (e ∙ rest_other _ _ _ c.if-b-eq32.false (inr (sym w.if-not-is_sign.ensures))) ∙ c.loop-b.invariant
     ]
 
 pub loop-b-preserved : goal.loop-b-preserved
@@ -19,7 +18,7 @@ loop-b-preserved c =
     let e = at_drop_more (rest c.loop-b.ended) c.args.text.now c.loop-b.b-index 0 c.loop-b-test.true in
     elim c.if-b-eq32.branch [
       | then-b-eq32 w ↦ ap (λ b. rest b cs) w.ended-is ∙ sym (e ∙ rest_blank _ _ _ w.if-b-eq32.true) ∙ c.loop-b.invariant
-      | else-b-eq32+else-ended+else-not-is-sign w ↦ ap (λ b. rest b cs) w.ended-is ∙ sym (e ∙ rest_sign _ _ _ w.if-ended.false (sym w.if-not-is-sign.ensures)) ∙ c.loop-b.invariant
+      | else-b-eq32+else-ended+else-not-is_sign w ↦ ap (λ b. rest b cs) w.ended-is ∙ sym (e ∙ rest_sign _ _ _ w.if-ended.false (sym w.if-not-is_sign.ensures)) ∙ c.loop-b.invariant
     ]
 
 pub returns : goal.returns
