@@ -1,23 +1,19 @@
 -- Valid entries with one line are one entry.
-use Rattle.std.proofs.Common.{◌≡◌, ℕ, ◌+◌, ◌-◌, ◌*◌, ◌/◌, ◌%◌, ◌<◌, Bool, true, false, cond, ◌&&◌, ltb, List, [], ◌∷◌, ◌++◌, get_or, replicate, ℤ, IfSome, Some, None, Option, sym, refl, ap, ◌∙◌, arith}
+use Rattle.std.proofs.Common.{◌≡◌, ℕ, ◌+◌, ◌-◌, ◌*◌, ◌/◌, ◌%◌, ◌<◌, Bool, true, false, ltb, List, [], ◌++◌, get_or, IfSome, Some, None, Option, sym, refl, ap, ◌∙◌, arith}
 use Rattle.std.proofs.lemmas.Bool.{and_parts, ltb-true}
 use Rattle.std.proofs.lemmas.Bool.Decides.{nat_tests}
 use Rattle.std.specs.Option.{option_map}
 use Rattle.calendar.specs.Dates.{message_day}
 use Rattle.instants.specs.Utc.{utc_time, utc_minute}
 use Rattle.calendar.specs.declared.date.Date.{Date}
-use Rattle.quantity.specs.Amounts.{holdable, absent}
-use Rattle.record.specs.Entries.{Entry}
 use Rattle.record.specs.Stations.{station_text}
-use Rattle.record.specs.Validity.{Valid}
 use Rattle.record.specs.declared.series.Series.{Series}
 use Rattle.record.specs.declared.series.Series.TheVariants.{Single, First, Later}
 use Rattle.values.specs.Writing.{digits}
-use Rattle.values.specs.Writing.{written}
 use Rattle.values.proofs.Back.{apart}
 use Rattle.line.specs.Lines.{date_text, second_text, minute_text, or_blank, revision_sign, series_sign, line}
 use Rattle.line.specs.Laws.{TellsApart}
-use Rattle.line.proofs.Back.{Says, at_pair, four_back, date_back, second_back, minute_back, message_writable}
+use Rattle.line.proofs.Back.{Says, four_back, date_back, second_back, minute_back, message_writable}
 use Rattle.line.proofs.Cut.{columns}
 use Rattle.line.proofs.Durations.{duration_small}
 use Rattle.line.proofs.Fields.{amount_held}

@@ -1,10 +1,10 @@
 -- Numbers and dates that are written are read back.
-use Rattle.std.proofs.Common.{◌≡◌, ℕ, ◌+◌, ◌-◌, ◌*◌, ◌/◌, ◌%◌, ◌<◌, ◌≤◌, Bool, true, false, cond, ◌&&◌, ◌||◌, eqb, leb, List, [], ◌∷◌, ◌++◌, length, get_or, Some, None, Option, sym, refl, ap, ◌∙◌, subst, arith}
+use Rattle.std.proofs.Common.{◌≡◌, ℕ, ◌+◌, ◌*◌, ◌/◌, ◌%◌, ◌<◌, ◌≤◌, Bool, true, false, cond, ◌&&◌, ◌||◌, eqb, leb, List, [], ◌∷◌, ◌++◌, get_or, Some, None, Option, ap, ◌∙◌, arith}
 use Rattle.std.proofs.lemmas.Bool.{cond-true, le-leb, and_from, and_parts}
-use Rattle.text.specs.Signs.{digit, pair_of}
+use Rattle.text.specs.Signs.{pair_of}
 use Rattle.values.specs.Writing.{digits}
 use Rattle.calendar.specs.Dates.{message_day, real, month_length, leap}
-use Rattle.calendar.proofs.Dates.{Real, real_parts}
+use Rattle.calendar.proofs.Dates.{real_parts}
 use Rattle.calendar.specs.declared.date.Date.{Date}
 use Rattle.line.specs.Lines.{Writable, date_text, second_text, minute_text}
 

@@ -1,10 +1,9 @@
 -- What the columns of a line give.
-use Rattle.std.proofs.Common.{◌≡◌, ℕ, Bool, true, false, cond, eqb, List, ℤ, IfSome, Some, None, Option, sym, refl, ap, ◌∙◌, arith}
+use Rattle.std.proofs.Common.{◌≡◌, ℕ, Bool, true, false, cond, eqb, List, ℤ, IfSome, Some, None, Option, sym, ap, ◌∙◌, arith}
 use Rattle.std.proofs.lemmas.Bool.{cond-true}
 use Rattle.std.proofs.lemmas.Bool.Decides.{nat_tests}
 use Rattle.quantity.specs.Amounts.{holdable}
 use Rattle.quantity.specs.Values.{value_of}
-use Rattle.quantity.specs.declared.amount.Amount.{Amount}
 use Rattle.quantity.specs.declared.value.Value.{Value}
 use Rattle.quantity.specs.declared.value.Value.TheVariants.{Missing, Known}
 use Rattle.values.specs.Laws.{Held}

@@ -1,5 +1,5 @@
 -- Two listing lines, written out.
-use Rattle.std.specs.Prelude.{◌≡◌, ℕ, ◌+◌, ◌*◌, true, false, List, [], ◌∷◌, ◌++◌, pos, Some, None, codes}
+use Rattle.std.specs.Prelude.{◌≡◌, ◌+◌, ◌*◌, true, false, [], ◌∷◌, ◌++◌, pos, Some, None, codes}
 use Rattle.record.specs.Entries.{Entry}
 use Rattle.record.specs.declared.series.Series.TheVariants.{Single, Later}
 use Rattle.line.specs.Lines.{line}

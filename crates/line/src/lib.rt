@@ -1,4 +1,6 @@
 // The listing line of a record, and the record of a line.
+#![tactic(auto)]
+
 mod columns;
 pub mod laws;
 pub mod read;

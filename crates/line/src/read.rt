@@ -46,7 +46,7 @@ pub fn record_of(line: &[u8]) -> Option<Record>
         return None;
     }
     let record = fields_in(line)?;
-    if line == line_of(&record) {
+    if line == line_of(&record).as_slice() {
         Some(record)
     } else {
         None

@@ -7,7 +7,7 @@ use Rattle.calendar.specs.Ways.{and_then}
 use Rattle.daylight.specs.declared.zone.Zone.{Zone}
 use Rattle.ditems.specs.Moves.{move_of}
 use Rattle.ditems.specs.Times.{time_item}
-use Rattle.ditems.proofs.Somes.{none-some, some_same, mapped_some, when-some}
+use Rattle.ditems.proofs.Somes.{none-some, mapped_some, when-some}
 use Rattle.terms.specs.declared.stage.Stage as the_stage
 use Rattle.terms.specs.declared.stage.Stage.TheVariants.{Free, BeforeSteps, AmongSteps}
 use Rattle.terms.specs.Created.{created_of}

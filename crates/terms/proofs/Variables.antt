@@ -1,5 +1,5 @@
 -- DV items, from their parts. Assumes nothing.
-use Rattle.std.proofs.Common.{◌≡◌, ℕ, List, [], ◌∷◌, length, get_or, Some, None, Option, sym, refl, ap, ◌∙◌}
+use Rattle.std.proofs.Common.{◌≡◌, ℕ, List, length, get_or, Some, None, Option, sym, ap, ◌∙◌}
 use Rattle.std.specs.Option.{option_map}
 use Rattle.terms.specs.Standing.{Standing}
 use Rattle.terms.specs.Settings.{lasting, variable_read, variable_item}

@@ -1,5 +1,5 @@
 -- What a D item makes of the terms that stand: D, the letter of its kind, and the rest.
-use Rattle.std.specs.Prelude.{ℕ, Bool, cond, List, [], ◌∷◌, Some, None, Option, ◌==◌}
+use Rattle.std.specs.Prelude.{ℕ, Bool, cond, List, [], ◌∷◌, None, Option, ◌==◌}
 use Rattle.calendar.specs.declared.date.Date.{Date}
 use Rattle.daylight.specs.declared.zone.Zone.{Zone}
 use Rattle.terms.specs.declared.stage.Stage as the_stage

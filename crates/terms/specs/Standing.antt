@@ -1,11 +1,11 @@
 -- The terms that stand for the next value, as plain numbers.
-use Rattle.std.specs.Prelude.{ℕ, cond, Some, None, Option, ◌==◌}
+use Rattle.std.specs.Prelude.{ℕ, cond, None, Option, ◌==◌}
 use Rattle.std.specs.Option.{option_map}
 use Rattle.calendar.specs.declared.date.Date.{Date}
 use Rattle.instants.specs.declared.moves.Move.{Move}
 use Rattle.daylight.specs.declared.zone.Zone.{Zone}
 use Rattle.quantity.specs.declared.units.Units as the_units
-use Rattle.quantity.specs.declared.units.Units.TheVariants.{English, Si}
+use Rattle.quantity.specs.declared.units.Units.TheVariants.{English}
 use Rattle.ditems.specs.declared.groups.Groups.{Groups}
 use Rattle.ditems.specs.Groups.{groups_at}
 use Rattle.terms.specs.declared.terms.Terms.{Terms}

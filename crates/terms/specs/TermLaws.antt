@@ -1,5 +1,5 @@
 -- Laws of the terms and of observation times.
-use Rattle.std.specs.Prelude.{◌≡◌, ℕ, Bool, true, cond, List, [], ◌∷◌, Some, None, Option, ◌==◌}
+use Rattle.std.specs.Prelude.{◌≡◌, ℕ, Bool, true, cond, List, ◌∷◌, Some, None, Option, ◌==◌}
 use Rattle.calendar.specs.declared.date.Date.{Date}
 use Rattle.instants.specs.declared.moves.Move.{Move}
 use Rattle.calendar.specs.Dates.{message_day}

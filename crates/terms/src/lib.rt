@@ -1,4 +1,6 @@
 // The terms that D items set for the values behind them.
+#![tactic(auto)]
+
 pub mod created;
 mod items;
 pub mod laws;

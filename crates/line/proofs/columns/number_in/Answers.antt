@@ -1,4 +1,4 @@
-use Rattle.std.proofs.Common.{◌≡◌, ◌+◌, ◌*◌, ap, ◌∙◌, arith}
+use Rattle.std.proofs.Common.{arith}
 use Rattle.line.proofs.Back.{four_back}
 use Rattle.line.proofs.columns.number_in.Goals as goal
 

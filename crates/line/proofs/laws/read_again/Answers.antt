@@ -13,4 +13,4 @@ again r l None e h = absurd (h (entry r) (valid r) e)
 again r l (Some x) e h = ap Some (tells_apart (entry x) (entry r) (valid x) (valid r) (h ∙ sym e))
 
 pub returns : goal.returns
-returns c = again c.args.record.now _ c.record-of.result (sym c.line-of.ensures) c.record-of.ensures
+returns c = again c.args.record.now _ c.record_of.result (sym c.line_of.ensures) c.record_of.ensures

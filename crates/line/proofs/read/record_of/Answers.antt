@@ -1,9 +1,8 @@
-use Rattle.std.proofs.Common.{◌≡◌, length, sym, ap, ◌∙◌, arith}
+use Rattle.std.proofs.Common.{length, sym, ap, ◌∙◌}
 use Rattle.std.proofs.lemmas.Slice.Eq.{slice_eq-Decides}
-use Rattle.record.specs.Entries.{entry}
 use Rattle.line.specs.Lines.{line}
 use Rattle.line.proofs.Cut.{line_long}
-use Rattle.line.proofs.Fields.{none-some, some_same, both_ways}
+use Rattle.line.proofs.Fields.{some_same, both_ways}
 use Rattle.line.proofs.read.record_of.Goals as goal
 use Rattle.std.proofs.lemmas.Bool.Decides.{Decides-eqb}
 
@@ -11,10 +10,10 @@ pub returns-then-line-ne80 : goal.returns-then-line-ne80
 returns-then-line-ne80 c e v h = c.if-line-ne80.true (ap length (sym h) ∙ line_long e v)
 
 pub returns-then-eq : goal.returns-then-eq
-returns-then-eq c = sym ((slice_eq-Decides Decides-eqb _ _ _ c.eq.ensures).0 c.if-eq.true ∙ c.line-of.ensures)
+returns-then-eq c = sym ((slice_eq-Decides Decides-eqb _ _ _ c.eq.ensures).0 c.if-eq.true ∙ c.as_slice.ensures ∙ c.line_of.ensures)
 
 pub returns-else-eq : goal.returns-else-eq
 returns-else-eq c e v h =
-    let same = some_same (c.in-ok-record.ensures e v h) in
-    let equal = (slice_eq-Decides Decides-eqb _ _ _ c.eq.ensures).1 (sym h ∙ ap line (sym same) ∙ sym c.line-of.ensures) in
+    let same = some_same (c.in_ok-record.ensures e v h) in
+    let equal = (slice_eq-Decides Decides-eqb _ _ _ c.eq.ensures).1 (sym h ∙ ap line (sym same) ∙ sym (c.as_slice.ensures ∙ c.line_of.ensures)) in
     both_ways c.eq.result equal c.if-eq.false

@@ -8,4 +8,4 @@ pub returns : goal.returns
 returns c =
     let t = c.args.time in
     let m = t.minute in
-    both_are (replicate 12 32) (date_text t.date) (digits 2 (m / 60) ++ digits 2 (m % 60)) 8 c.put-bytes.ensures c.put-bytes-2.ensures c.date-text.ensures refl refl refl
+    both_are (replicate 12 32) (date_text t.date) (digits 2 (m / 60) ++ digits 2 (m % 60)) 8 c.put_bytes.ensures c.put_bytes-2.ensures c.date_text.ensures refl refl refl

@@ -1,5 +1,4 @@
-use Rattle.std.proofs.Common.{◌≡◌, Some, None, sym, ap, ◌∙◌}
-use Rattle.terms.specs.Created.{created_reading, day_and_clock}
+use Rattle.std.proofs.Common.{Some, None, ◌∙◌}
 use Rattle.terms.proofs.Creation.{length_none, length_some, day-none, day-some}
 use Rattle.terms.proofs.created.created_reading.Goals as goal
 

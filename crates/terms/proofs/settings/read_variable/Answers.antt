@@ -1,4 +1,4 @@
-use Rattle.std.proofs.Common.{◌≡◌, ℕ, Option, ap, ◌∙◌, rules}
+use Rattle.std.proofs.Common.{ℕ, Option, ap, ◌∙◌}
 use Rattle.std.specs.Option.{option_map}
 use Rattle.calendar.specs.Ways.{and_then}
 use Rattle.quantity.specs.Codes.{variable_of}

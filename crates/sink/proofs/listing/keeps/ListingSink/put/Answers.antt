@@ -17,13 +17,13 @@ returns-then-self-at-lt80 c =
     record { holds = put_none (showing s).entries (unwritten s) (entry c.args.record) none; fits = (none, refl); frame = longer_ties.stays s }
 
 pub loop-i-init : goal.loop-i-init
-loop-i-init c = (refl, refl, over_none c.args.self.now.bytes.now (80 * c.args.self.now.count) c.line-of-text.result)
+loop-i-init c = (refl, refl, over_none c.args.self.now.bytes.now (80 * c.args.self.now.count) c.line_of-text.result)
 
 pub invariant-of-self : goal.invariant-of-self
 invariant-of-self c =
     let l = c.loop-i.self in
     let at = 80 * c.args.self.now.count + c.loop-i.i in
-    let x = get_or c.line-of-text.result c.loop-i.i 0 in
+    let x = get_or c.line_of-text.result c.loop-i.i 0 in
     (omega (arith, length-set l.bytes.now at x, l.fits), (∥∥₁_map l.shown (untouched l.bytes.now l.count at x (omega (arith, c.loop-i.invariant.0))), tt))
 
 pub loop-i-preserved : goal.loop-i-preserved
@@ -31,8 +31,8 @@ loop-i-preserved c =
     let s = c.args.self.now in
     let inv = c.loop-i.invariant in
     let i = c.loop-i.i in
-    let text = c.line-of-text.result in
-    let long = ap length c.line-of-text.ensures ∙ line_long (entry c.args.record) (valid c.args.record) in (
+    let text = c.line_of-text.result in
+    let long = ap length c.line_of-text.ensures ∙ line_long (entry c.args.record) (valid c.args.record) in (
       inv.0,
       inv.1,
       ap (λ (l : List ℕ). set l (80 * s.count + i) (get_or text i 0)) inv.2 ∙ over_more s.bytes.now (80 * s.count) text i (omega (arith, long)) (omega (arith, long, c.if-self-at-lt80.false)),
@@ -49,7 +49,7 @@ invariant-of-self-2 c =
     let inv = c.loop-i.invariant in
     let r = c.args.record in
     let room : 80 * s.count + 80 ≤ length s.bytes.now = omega (arith, c.if-self-at-lt80.false) in
-    let done = written s.bytes.now l.bytes.now c.line-of-text.result (line (entry r)) (80 * s.count) c.loop-i.i inv.2 c.loop-i-test.false c.loop-i.auto.i-end c.line-of-text.ensures in
+    let done = written s.bytes.now l.bytes.now c.line_of-text.result (line (entry r)) (80 * s.count) c.loop-i.i inv.2 c.loop-i-test.false c.loop-i.auto.i-end c.line_of-text.ensures in
     let long = same_long s.bytes.now l.bytes.now s.count (entry r) (valid r) room done in (
       omega (arith, long, room, inv.0),
       (∥∥₁_map s.shown (λ shown. subst (λ n. Shown l.bytes.now (n + 1)) (sym inv.0) (one_more s.bytes.now l.bytes.now s.count (entry r) (valid r) room done shown)), tt),
@@ -62,7 +62,7 @@ returns c =
     let inv = c.loop-i.invariant in
     let r = c.args.record in
     let room : 80 * s.count + 80 ≤ length s.bytes.now = omega (arith, c.if-self-at-lt80.false) in
-    let done = written s.bytes.now l.bytes.now c.line-of-text.result (line (entry r)) (80 * s.count) c.loop-i.i inv.2 c.loop-i-test.false c.loop-i.auto.i-end c.line-of-text.ensures in
+    let done = written s.bytes.now l.bytes.now c.line_of-text.result (line (entry r)) (80 * s.count) c.loop-i.i inv.2 c.loop-i-test.false c.loop-i.auto.i-end c.line_of-text.ensures in
     record {
       holds = put_lists s _ (entry r) (valid r) room (ap (λ n. n + 1) inv.0) done;
       fits = omega (arith, room);

@@ -31,4 +31,4 @@ returns c =
     let l = c.args.self.now in
     let i = c.args.place in
     let n : 80 * i + 80 - 80 * i ≡ 80 = omega arith in
-    at_place l.bytes.now l.count (showing l) i c.if-place-self.false _ (ap (λ k. take k (drop (80 * i) l.bytes.now)) n) c.record-of.result c.record-of.ensures
+    at_place l.bytes.now l.count (showing l) i c.if-place-self.false _ (ap (λ k. take k (drop (80 * i) l.bytes.now)) n) c.record_of.result c.record_of.ensures
