@@ -19,12 +19,15 @@ returns-then-self-at-lt80 c =
 pub loop-i-init : goal.loop-i-init
 loop-i-init c = (refl, refl, over_none c.args.self.now.bytes.now (80 * c.args.self.now.count) c.line_of-text.result)
 
-pub invariant-of-self : goal.invariant-of-self
-invariant-of-self c =
+pub invariant_of-self : goal.invariant_of-self
+invariant_of-self c =
     let l = c.loop-i.self in
     let at = 80 * c.args.self.now.count + c.loop-i.i in
     let x = get_or c.line_of-text.result c.loop-i.i 0 in
-    (omega (arith, length-set l.bytes.now at x, l.fits), (∥∥₁_map l.shown (untouched l.bytes.now l.count at x (omega (arith, c.loop-i.invariant.0))), tt))
+    record {
+      fits = omega (arith, length-set l.bytes.now at x, l.fits);
+      shown = ∥∥₁_map l.shown (untouched l.bytes.now l.count at x (omega (arith, c.loop-i.invariant.0)));
+    }
 
 pub loop-i-preserved : goal.loop-i-preserved
 loop-i-preserved c =
@@ -42,18 +45,19 @@ loop-i-preserved c =
 written : (d o xs ys : List ℕ) (at i : ℕ) → o ≡ over d at xs i → 80 ≤ i → i ≤ 80 → xs ≡ ys → o ≡ over d at ys 80
 written d o xs ys at i e h k f = let all : i ≡ 80 = omega arith in e ∙ ap (λ n. over d at xs n) all ∙ ap (λ l. over d at l 80) f
 
-pub invariant-of-self-2 : goal.invariant-of-self-2
-invariant-of-self-2 c =
+pub invariant_of-self-2 : goal.invariant_of-self-2
+invariant_of-self-2 c =
     let s = c.args.self.now in
     let l = c.loop-i.self in
     let inv = c.loop-i.invariant in
     let r = c.args.record in
     let room : 80 * s.count + 80 ≤ length s.bytes.now = omega (arith, c.if-self-at-lt80.false) in
     let done = written s.bytes.now l.bytes.now c.line_of-text.result (line (entry r)) (80 * s.count) c.loop-i.i inv.2 c.loop-i-test.false c.loop-i.auto.i-end c.line_of-text.ensures in
-    let long = same_long s.bytes.now l.bytes.now s.count (entry r) (valid r) room done in (
-      omega (arith, long, room, inv.0),
-      (∥∥₁_map s.shown (λ shown. subst (λ n. Shown l.bytes.now (n + 1)) (sym inv.0) (one_more s.bytes.now l.bytes.now s.count (entry r) (valid r) room done shown)), tt),
-    )
+    let long = same_long s.bytes.now l.bytes.now s.count (entry r) (valid r) room done in
+    record {
+      fits = omega (arith, long, room, inv.0);
+      shown = ∥∥₁_map s.shown (λ shown. subst (λ n. Shown l.bytes.now (n + 1)) (sym inv.0) (one_more s.bytes.now l.bytes.now s.count (entry r) (valid r) room done shown));
+    }
 
 pub returns : goal.returns
 returns c =
