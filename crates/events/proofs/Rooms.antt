@@ -1,6 +1,5 @@
 -- What room does to a decode.
 use Rattle.std.proofs.Common.{◌≡◌, ℕ, zero, suc, ◌<◌, ◌≤◌, List, [], ◌∷◌, length, refl, ap, arith}
-use Rattle.refusals.specs.declared.Fault.{Fault}
 use Rattle.events.specs.Events.{Event, logged, refused, fault, records, met, verdict}
 use Rattle.events.specs.Room.{refusals, Rooms}
 

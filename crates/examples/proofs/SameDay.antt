@@ -1,9 +1,8 @@
 -- A reading whose time in UTC is on the same day.
-use Rattle.std.proofs.Common.{◌≡◌, ℕ, ◌+◌, ◌*◌, ◌/◌, ◌%◌, ◌<◌, Bool, true, pos, Some, None, Option, sym, refl, ap, ◌∙◌, arith}
+use Rattle.std.proofs.Common.{◌≡◌, ℕ, ◌+◌, ◌*◌, ◌/◌, ◌%◌, ◌<◌, Bool, true, pos, Some, None, ap, ◌∙◌, arith}
 use Rattle.std.specs.Option.{option_map}
 use Rattle.std.proofs.lemmas.Bool.{cond-true}
 use Rattle.calendar.specs.declared.date.Date.{Date}
-use Rattle.instants.specs.declared.moves.Unit.TheVariants.{Second}
 use Rattle.calendar.specs.Dates.{real, number, date_of}
 use Rattle.calendar.specs.Ways.{and_then}
 use Rattle.instants.specs.Moves.{reading_at, by_seconds, moved}

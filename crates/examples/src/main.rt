@@ -1,4 +1,6 @@
 // Worked examples of the rules: proved of the definitions, and worked by the code, one line to each.
+#![tactic(auto)]
+
 use crate::worked::{in_utc, step_of, worked_examples};
 use calendar::date::Date;
 use calendar::message::message_date;

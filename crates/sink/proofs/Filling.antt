@@ -1,7 +1,6 @@
 -- A line written behind the lines of a listing is one line more.
-use Rattle.std.proofs.Common.{◌≡◌, ℕ, suc, ◌+◌, ◌-◌, ◌*◌, ◌/◌, ◌<◌, ◌≤◌, List, [], ◌∷◌, ◌++◌, length, get_or, take, drop, set, sym, refl, ap, ◌∙◌, append_assoc, arith}
-use Rattle.std.specs.List.{flat_map, AllByRecursion as All}
-use Rattle.std.proofs.lemmas.List.{take_at, drop_at, drop-drop, length-append, length-take-le, length-drop, length-set, take-set-le, set_at, take_more, drop_more, flat_map_more, take-append-drop, take_all}
+use Rattle.std.proofs.Common.{◌≡◌, ℕ, suc, ◌+◌, ◌*◌, ◌<◌, ◌≤◌, List, [], ◌∷◌, ◌++◌, length, get_or, take, drop, set, sym, ap, ◌∙◌, append_assoc, arith}
+use Rattle.std.proofs.lemmas.List.{take_at, drop_at, length-append, length-take-le, length-drop, take-set-le, set_at, take_more, drop_more, flat_map_more, take-append-drop, take_all}
 use Rattle.std.proofs.ByRecursion.{All-push}
 use Rattle.record.specs.Entries.{Entry}
 use Rattle.record.specs.Validity.{Valid}
@@ -11,7 +10,7 @@ use Rattle.line.proofs.Cut.{line_long}
 use Rattle.line.proofs.Rows.{same_entries}
 use Rattle.sink.specs.declared.listing.Listing.{Listing}
 use Rattle.sink.specs.Listings.{Longer, listed, showing, unwritten}
-use Rattle.sink.specs.Logs.{Log, log, put, put_at}
+use Rattle.sink.specs.Logs.{log, put, put_at}
 
 -- the first i bytes of xs over what stands at a place
 abbrev pub over : List ℕ → ℕ → List ℕ → ℕ → List ℕ

@@ -1,5 +1,5 @@
 -- A push grows a table.
-use Rattle.std.proofs.Common.{◌≡◌, ℕ, ◌+◌, ◌-◌, ◌≤◌, List, [], ◌∷◌, ◌++◌, length, take, drop, Ok, Err, Result, sym, refl, ap, ◌∙◌, arith, MatchResult}
+use Rattle.std.proofs.Common.{◌≡◌, ◌+◌, [], ◌∷◌, ◌++◌, length, drop, Ok, Err, Result, sym, ap, ◌∙◌, arith, MatchResult}
 use Rattle.std.proofs.lemmas.List.{drop-drop, length-append, length-take-le}
 use Rattle.slots.specs.declared.list.Slots.{Slots}
 use Rattle.slots.specs.Lists.{held, behind, slots_room}

@@ -4,7 +4,7 @@ use lib.Seq.{take-nil}
 use Rattle.std.proofs.lemmas.List.{map_push}
 use Rattle.slots.specs.declared.list.Slots.{Slots}
 use Rattle.slots.specs.Lists.{held, slots_room}
-use Rattle.sink.specs.Logs.{Log, log, put, put_at, put_all, of_slots, TakesIn}
+use Rattle.sink.specs.Logs.{log, put, put_at, put_all, of_slots, TakesIn}
 
 module _ {T : Type 0} where
   -- what `push` says is a put

@@ -1,6 +1,7 @@
 -- What a listing holds, and what it leaves alone.
 use Rattle.std.specs.Prelude.{◌≡◌, ℕ, ◌-◌, ◌*◌, ◌/◌, ◌≤◌, length, drop, refl}
-use Rattle.std.proofs.Common.{◌∙◌, arith}
+use Rattle.std.proofs.Common.{◌∙◌}
+use Rattle.std.proofs.Math.Nat.{le_refl, le_trans, mul-le-mul_left}
 use Rattle.std.proofs.Math.Logic.{∥∥₁_elim}
 use Rattle.std.specs.List.{AllByRecursion as All}
 use Rattle.record.specs.Entries.{Entry}
@@ -32,12 +33,12 @@ pub record Longer (s t : Listing) : Type 0 where
 
 pub longer_ties : Ties {S = Listing} Longer
 longer_ties = record {
-  stays = λ s. record { lent = refl; long = refl; longer = omega arith; behind = refl };
+  stays = λ s. record { lent = refl; long = refl; longer = le_refl s.count; behind = refl };
   goes = λ s t u p q. record {
     lent = q.lent ∙ p.lent;
     long = q.long ∙ p.long;
-    longer = omega (arith, p.longer, q.longer);
-    behind = q.behind ∙ further (80 * t.count) (80 * u.count) t.bytes.now s.bytes.now (omega (arith, q.longer)) p.behind;
+    longer = le_trans p.longer q.longer;
+    behind = q.behind ∙ further (80 * t.count) (80 * u.count) t.bytes.now s.bytes.now (mul-le-mul_left 80 q.longer) p.behind;
   };
 }
 

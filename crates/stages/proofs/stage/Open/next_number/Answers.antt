@@ -2,7 +2,7 @@ use Rattle.std.proofs.Common.{◌≡◌, ◌+◌, sym, ◌∙◌, arith, rules}
 use Rattle.messages.specs.Models.{common}
 use Rattle.stages.proofs.Moving.{none_cases, continues-none, continues_here, other_form, other_revision, other_number}
 use Rattle.stages.proofs.stage.Open.next_number.Goals as goal
-use Rattle.stages.proofs.stage.Open.next_number.Goals.{else-is-same-via-then-is-same+then-self-revised+then-here-gt0+else-here-self, else-is-same-via-then-is-same+then-self-revised+else-here-gt0, else-is-same-via-then-is-same+else-self-revised, else-is-same-via-else-is-same}
+use Rattle.stages.proofs.stage.Open.next_number.Goals.{else-is_same-via-then-is_same+then-self-revised+then-here-gt0+else-here-self, else-is_same-via-then-is_same+then-self-revised+else-here-gt0, else-is_same-via-then-is_same+else-self-revised, else-is_same-via-else-is_same}
 
 pub returns-in_err-here : goal.returns-in_err-here
 returns-in_err-here c = none_cases _ _ c.from_residual.ensures (continues-none (common c.args.self.now.message) c.args.self.now.number c.args.form c.args.revised c.args.line.now c.in_err-here.ensures.value)
@@ -19,8 +19,8 @@ returns-else-is_same c =
     let n = c.args.self.now.number in
     let is = c.in_ok-here.ensures.value in
     elim c.else-is_same.branch [
-      | else-is-same-via-then-is-same+then-self-revised+then-here-gt0+else-here-self w ↦ other_number m n c.args.form c.args.revised c.args.line.now c.in_ok-here.here is (λ e. w.if-here-self.false (omega arith))
-      | else-is-same-via-then-is-same+then-self-revised+else-here-gt0 w ↦ other_number m n c.args.form c.args.revised c.args.line.now c.in_ok-here.here is (λ e. let h = w.if-here-gt0.false in omega arith)
-      | else-is-same-via-then-is-same+else-self-revised w ↦ other_revision m n c.args.form c.args.revised c.args.line.now c.in_ok-here.here is (let apart : c.args.self.now.message.revised ≡ c.args.revised → ⊥ = search rules in apart)
-      | else-is-same-via-else-is-same w ↦ other_form m n c.args.form c.args.revised c.args.line.now c.in_ok-here.here is (sym c.is_same.ensures ∙ w.if-is_same.false)
+      | else-is_same-via-then-is_same+then-self-revised+then-here-gt0+else-here-self w ↦ other_number m n c.args.form c.args.revised c.args.line.now c.in_ok-here.here is (λ e. w.if-here-self.false (omega arith))
+      | else-is_same-via-then-is_same+then-self-revised+else-here-gt0 w ↦ other_number m n c.args.form c.args.revised c.args.line.now c.in_ok-here.here is (λ e. let h = w.if-here-gt0.false in omega arith)
+      | else-is_same-via-then-is_same+else-self-revised w ↦ other_revision m n c.args.form c.args.revised c.args.line.now c.in_ok-here.here is (let apart : c.args.self.now.message.revised ≡ c.args.revised → ⊥ = search rules in apart)
+      | else-is_same-via-else-is_same w ↦ other_form m n c.args.form c.args.revised c.args.line.now c.in_ok-here.here is (sym c.is_same.ensures ∙ w.if-is_same.false)
     ]
