@@ -4,7 +4,7 @@ use Rattle.std.specs.Option.{option_map}
 use Rattle.calendar.specs.declared.date.Date.{Date}
 use Rattle.calendar.specs.Ways.{and_then}
 use Rattle.daylight.specs.declared.zone.Zone.{Zone}
-use Rattle.daylight.specs.declared.zone.Saving as theSaving
+use Rattle.daylight.specs.declared.zone.Saving as the_saving
 use Rattle.daylight.specs.declared.zone.Saving.TheVariants.{Standard, Daylight, ByRule}
 
 -- the hours of a letter in a list of letters and hours
@@ -17,7 +17,7 @@ unfoldable pub hours_of : ℕ → Option ℕ
 hours_of = look_up ((65, 4) ∷ (69, 5) ∷ (67, 6) ∷ (77, 7) ∷ (80, 8) ∷ (76, 9) ∷ [])
 
 -- what a letter behind the zone's says: S standard, D daylight time
-unfoldable pub saving_of : ℕ → Option theSaving.Saving
+unfoldable pub saving_of : ℕ → Option the_saving.Saving
 saving_of letter = cond (letter == 83) (Some Standard) (cond (letter == 68) (Some Daylight) None)
 
 -- a letter alone goes by the daylight rule, and Z (90) alone is UTC
@@ -34,7 +34,7 @@ zone_of word =
     (cond (length word == 2) (two_letters (slice_index word 0) (slice_index word 1)) None)
 
 -- whether daylight time is kept at a reading, under a rule
-abbrev pub keeps_daylight : (Date × ℕ → Bool) → theSaving.Saving → Date × ℕ → Bool
+abbrev pub keeps_daylight : (Date × ℕ → Bool) → the_saving.Saving → Date × ℕ → Bool
 keeps_daylight rule Standard r = false
 keeps_daylight rule Daylight r = true
 keeps_daylight rule ByRule r = rule r

@@ -3,7 +3,7 @@ ghost use Rattle.std.specs.Prelude.{◌≡◌, ◌*◌, ◌/◌, length, take, d
 ghost use Rattle.events.specs.Events.{met, records};
 ghost use Rattle.exports.specs.Lawful.{lawful};
 ghost use Rattle.line.specs.Lines.{line};
-ghost use Rattle.shef.specs.Decodes.{answer_of, counted, decoded, delivered as deliveredOf};
+ghost use Rattle.shef.specs.Decodes.{answer_of, counted, decoded, delivered as delivered_of};
 ghost use Rattle.std.specs.List.{flat_map};
 
 use calendar::date::Date;
@@ -34,7 +34,7 @@ pub extern "C" fn shef_decode(
     ensures lines { take (80 * result.delivered) bytes.new ≡ flat_map line (take (length bytes.old / 80) (records (decoded (lawful year month day) text.now))) }
     ensures behind { drop (80 * result.delivered) bytes.new ≡ drop (80 * result.delivered) bytes.old }
     ensures number { result.number ≡ answer_of (lawful year month day) (length bytes.old / 80) text.now }
-    ensures delivered { result.delivered ≡ deliveredOf (length bytes.old / 80) (decoded (lawful year month day) text.now) }
+    ensures delivered { result.delivered ≡ delivered_of (length bytes.old / 80) (decoded (lawful year month day) text.now) }
     ensures found { result.found ≡ counted (length (met (length bytes.old / 80) (decoded (lawful year month day) text.now))) }
 {
     let none = Fault {

@@ -5,7 +5,7 @@ use Rattle.std.specs.Option.{option_map}
 use Rattle.std.proofs.lemmas.Bool.{cond-true, cond-false, cond_both, cases_Bool, leb-true, leb-false}
 use Rattle.std.proofs.lemmas.Int.{ints}
 use Rattle.calendar.specs.declared.date.Date.{Date}
-use Rattle.instants.specs.declared.moves.Unit as theUnit
+use Rattle.instants.specs.declared.moves.Unit as the_unit
 use Rattle.instants.specs.declared.moves.Unit.TheVariants.{Second, Minute, Hour, Day, Month, Year, MonthEnd}
 use Rattle.calendar.specs.Dates.{month_length, real, number, date_of}
 use Rattle.calendar.specs.Ways.{and_then}
@@ -13,11 +13,11 @@ use Rattle.instants.specs.Moves.{natural, instant, reading_at, month_place, mont
 use Rattle.instants.specs.Moving.{AtInstant, AtDay, InMonth, Moving}
 use Rattle.calendar.proofs.Dates.{real_parts, real_whole, number_of_date, no_date, last_number, real_from, month_some}
 
-is_moved : (r : Date × ℕ) (u : theUnit.Unit) (z : ℤ) → real r.0 ≡ true → moved r u z ≡ real_moved r u z
+is_moved : (r : Date × ℕ) (u : the_unit.Unit) (z : ℤ) → real r.0 ≡ true → moved r u z ≡ real_moved r u z
 unfolding moved
 is_moved r u z is = cond-true _ _ None is
 
-unmoved : (r : Date × ℕ) (u : theUnit.Unit) (z : ℤ) → real r.0 ≡ false → moved r u z ≡ None
+unmoved : (r : Date × ℕ) (u : the_unit.Unit) (z : ℤ) → real r.0 ≡ false → moved r u z ≡ None
 unfolding moved
 unmoved r u z not-real = cond-false _ (real_moved r u z) None not-real
 

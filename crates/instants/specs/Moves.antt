@@ -2,7 +2,7 @@
 use Rattle.std.specs.Prelude.{ℕ, ◌+◌, ◌-◌, ◌*◌, ◌/◌, ◌%◌, min, cond, ℤ, pos, negsuc, ◌+ℤ◌, ◌*ℤ◌, Some, None, Option, nat_le}
 use Rattle.std.specs.Option.{option_map}
 use Rattle.calendar.specs.declared.date.Date.{Date}
-use Rattle.instants.specs.declared.moves.Unit as theUnit
+use Rattle.instants.specs.declared.moves.Unit as the_unit
 use Rattle.instants.specs.declared.moves.Unit.TheVariants.{Second, Minute, Hour, Day, Month, Year, MonthEnd}
 use Rattle.calendar.specs.Dates.{month_length, real, number, date_of}
 use Rattle.calendar.specs.Ways.{and_then}
@@ -55,7 +55,7 @@ to_month_end d z = option_map last_in (month_from d z)
 abbrev pub with_second : ℕ → Option Date → Option (Date × ℕ)
 with_second s o = option_map {U = Date × ℕ} (λ d. (d, s)) o
 
-abbrev pub real_moved : Date × ℕ → theUnit.Unit → ℤ → Option (Date × ℕ)
+abbrev pub real_moved : Date × ℕ → the_unit.Unit → ℤ → Option (Date × ℕ)
 real_moved r Second z = by_seconds r z
 real_moved r Minute z = by_seconds r (pos 60 *ℤ z)
 real_moved r Hour z = by_seconds r (pos 3600 *ℤ z)
@@ -65,5 +65,5 @@ real_moved r Year z = with_second r.1 (by_months r.0 (pos 12 *ℤ z))
 real_moved r MonthEnd z = with_second r.1 (to_month_end r.0 z)
 
 -- a reading moved by a signed number of units, where its date is real and the calendar has the outcome
-unfoldable pub moved : Date × ℕ → theUnit.Unit → ℤ → Option (Date × ℕ)
+unfoldable pub moved : Date × ℕ → the_unit.Unit → ℤ → Option (Date × ℕ)
 moved r u z = cond (real r.0) (real_moved r u z) None

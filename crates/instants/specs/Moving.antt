@@ -1,7 +1,7 @@
 -- What moves do, in words of the calendar: where they land, and that they fail only where the calendar has no such place.
 use Rattle.std.specs.Prelude.{◌≡◌, ℕ, ◌<◌, min, true, false, ℤ, pos, ◌+ℤ◌, ◌*ℤ◌, Some, None, Option, ◌≢◌}
 use Rattle.calendar.specs.declared.date.Date.{Date}
-use Rattle.instants.specs.declared.moves.Unit as theUnit
+use Rattle.instants.specs.declared.moves.Unit as the_unit
 use Rattle.instants.specs.declared.moves.Unit.TheVariants.{Second, Minute, Hour, Day, Month, Year, MonthEnd}
 use Rattle.calendar.specs.Dates.{month_length, real, number}
 use Rattle.instants.specs.Moves.{instant, month_place, moved}
@@ -18,9 +18,9 @@ AtDay s z (Some q) = (real q.0 ≡ true) × (q.1 ≡ s) × (pos (number q.0) ≡
 
 -- the real date in the month at a place, on the day that the month's length gives, at the second s
 abbrev pub InMonth : ℕ → (ℕ → ℕ) → ℤ → Option (Date × ℕ) → Type 0
-InMonth s dayFor z None = (d : Date) → real d ≡ true → pos (month_place d) ≢ z
-InMonth s dayFor z (Some q) =
-    (real q.0 ≡ true) × (q.1 ≡ s) × (pos (month_place q.0) ≡ z) × (q.0.day ≡ dayFor (month_length q.0.year q.0.month))
+InMonth s day_for z None = (d : Date) → real d ≡ true → pos (month_place d) ≢ z
+InMonth s day_for z (Some q) =
+    (real q.0 ≡ true) × (q.1 ≡ s) × (pos (month_place q.0) ≡ z) × (q.0.day ≡ day_for (month_length q.0.year q.0.month))
 
 pub record Moving : Type 0 where
   -- seconds, minutes and hours are added on the line of instants
@@ -36,4 +36,4 @@ pub record Moving : Type 0 where
   pub same_month : (r q : Date × ℕ) (z : ℤ) → moved r Year z ≡ Some q → (q.0.month ≡ r.0.month) × (pos q.0.year ≡ pos r.0.year +ℤ z)
   pub month_ends : (r : Date × ℕ) (z : ℤ) → real r.0 ≡ true → InMonth r.1 (λ len. len) (pos (month_place r.0) +ℤ z) (moved r MonthEnd z)
   -- a date that is not real is not moved
-  pub unreal : (r : Date × ℕ) (u : theUnit.Unit) (z : ℤ) → real r.0 ≡ false → moved r u z ≡ None
+  pub unreal : (r : Date × ℕ) (u : the_unit.Unit) (z : ℤ) → real r.0 ≡ false → moved r u z ≡ None

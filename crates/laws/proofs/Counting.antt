@@ -3,7 +3,7 @@ use Rattle.std.proofs.Common.{◌≡◌, ℕ, ◌+◌, ◌-◌, ◌≤◌, Bool,
 use Rattle.std.specs.Option.{ok_or}
 use Rattle.std.specs.List.{AllByRecursion as All}
 use Rattle.std.proofs.lemmas.Bool.{true≢false}
-use Rattle.merging.specs.Merging.{Sided, of_header, of_line, is_d, filled, from_header, own_items as lineItems}
+use Rattle.merging.specs.Merging.{Sided, of_header, of_line, is_d, filled, from_header, own_items as line_items}
 use Rattle.items.specs.Words.{split_item}
 use Rattle.reader.specs.Lines.{Piece}
 use Rattle.reader.specs.declared.kind.Form.{Form}
@@ -134,7 +134,7 @@ turn_tallies S m p (of_header q) h = head_tallies S m p q.1 m.form h
 turn_tallies S m p (of_line q) h = line_tallies S m p q.1 m.form
 
 abbrev pub plain_of : List Sided → ℕ
-plain_of xs = plain_items (lineItems xs)
+plain_of xs = plain_items (line_items xs)
 
 plain_more : (x : Sided) (xs : List Sided) → plain_of (x ∷ xs) ≡ plain_in x + plain_of xs
 plain_more (of_header q) xs = omega arith
@@ -212,7 +212,7 @@ less_due E qs = refl
 
 accounted : (S : Setting) (m : Common) (t : Standing) (xs : List Sided) → Counted S m (fresh t) xs → Accounted S m t xs
 accounted S m t xs (all ys q is many rest) =
-    record { read = xs; left = []; logs = ys; end = []; whole = sym (append-nil xs); comes = is (λ _. []); many = many ∙ less_due m.form (lineItems xs); stops = refl }
+    record { read = xs; left = []; logs = ys; end = []; whole = sym (append-nil xs); comes = is (λ _. []); many = many ∙ less_due m.form (line_items xs); stops = refl }
 accounted S m t xs (upto read x more ys r parts is many) = record {
   read = read;
   left = x ∷ more;
@@ -220,7 +220,7 @@ accounted S m t xs (upto read x more ys r parts is many) = record {
   end = refused (Item r) (place_of x) ∷ [];
   whole = parts;
   comes = is (λ _. []);
-  many = many ∙ less_due m.form (lineItems read);
+  many = many ∙ less_due m.form (line_items read);
   stops = (r, refl);
 }
 

@@ -3,7 +3,7 @@ use Rattle.std.specs.Prelude.{◌≡◌, ℕ, ◌+◌, ◌-◌, ◌≤◌, Bool,
 use Rattle.std.specs.List.{AllByRecursion as All}
 use Rattle.merging.specs.Headers.{header_items}
 use Rattle.items.specs.Items.{message_items, body_items, is_blank}
-use Rattle.merging.specs.Merging.{Sided, is_d, filled, from_header, own_items as lineItems}
+use Rattle.merging.specs.Merging.{Sided, is_d, filled, from_header, own_items as line_items}
 use Rattle.reader.specs.Kinds.{kind_of, is_continuation}
 use Rattle.reader.specs.Lines.{Piece, lines}
 use Rattle.reader.specs.declared.kind.Form.{Form}
@@ -52,7 +52,7 @@ pub record Accounted (S : Setting) (m : Common) (t : Standing) (xs : List Sided)
   pub end : List Event
   pub whole : xs ≡ read ++ left
   pub comes : follow S m (fresh t) xs (λ _. []) ≡ logged_all logs ++ end
-  pub many : length logs ≡ readings_in m.form (lineItems read)
+  pub many : length logs ≡ readings_in m.form (line_items read)
   pub stops : StopsBefore left end
 
 -- the items of an opening line, behind its fields

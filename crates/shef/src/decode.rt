@@ -4,7 +4,7 @@ ghost use Rattle.events.specs.Events.{met, records};
 ghost use Rattle.events.specs.Room.{refusals};
 ghost use Rattle.messages.specs.Models.{setting};
 ghost use Rattle.reader.specs.Lines.{line_piece};
-ghost use Rattle.shef.specs.Decodes.{answer_of, counted, decoded, delivered as deliveredOf, ends_here};
+ghost use Rattle.shef.specs.Decodes.{answer_of, counted, decoded, delivered as delivered_of, ends_here};
 ghost use Rattle.stages.specs.Machines.{stage_of};
 ghost use Rattle.shef.specs.Answers.{Read};
 ghost use Rattle.stages.specs.Stages.{closing};
@@ -89,7 +89,7 @@ pub fn decode<S: Sink, R: Rule>(
     ensures sink { S.Sink.holds sink.new ≡ put_all (S.Sink.holds sink.old) (records (decoded (setting today (R.Rule.daylight rule.now)) text.now)) }
     ensures list { of_slots faults.new ≡ put_all (of_slots faults.old) (met (S.Sink.holds sink.old).room (decoded (setting today (R.Rule.daylight rule.now)) text.now)) }
     ensures number { result.number ≡ answer_of (setting today (R.Rule.daylight rule.now)) (S.Sink.holds sink.old).room text.now }
-    ensures delivered { result.delivered ≡ deliveredOf (S.Sink.holds sink.old).room (decoded (setting today (R.Rule.daylight rule.now)) text.now) }
+    ensures delivered { result.delivered ≡ delivered_of (S.Sink.holds sink.old).room (decoded (setting today (R.Rule.daylight rule.now)) text.now) }
     ensures found { result.found ≡ counted (length (met (S.Sink.holds sink.old).room (decoded (setting today (R.Rule.daylight rule.now)) text.now))) }
     ensures frame { (S.Sink.frame sink.old sink.new) × (Grown faults.old faults.new) }
 {

@@ -1,13 +1,13 @@
 // SI amounts in English units.
 ghost use Rattle.std.specs.Prelude.{◌≡◌, ◌+◌, ◌*◌, ◌^◌, ◌<◌, unsigned_abs};
 ghost use Rattle.quantity.specs.Elements.{Fair};
-ghost use Rattle.values.specs.Conversion.{nearest as nearestTo, converted};
+ghost use Rattle.values.specs.Conversion.{nearest as nearest_to, converted};
 
 use quantity::element::Element;
 
 fn nearest(denominator: u64, size: u64) -> u64
     requires { (size < 3 * 10 ^ 18) × ((0 < denominator) × (denominator < 6 * 10 ^ 7)) }
-    ensures value { result ≡ nearestTo denominator size }
+    ensures value { result ≡ nearest_to denominator size }
     ensures small { result < 2 ^ 63 }
 {
     (2 * size + denominator) / (2 * denominator)

@@ -1,13 +1,13 @@
 // Amounts as messages write them.
 ghost use Rattle.std.specs.Prelude.{◌≡◌, ◌+◌, ◌-◌, ◌^◌, ◌<◌, ◌≤◌, length, take, drop, IfSome, unsigned_abs};
-ghost use Rattle.values.specs.Numbers.{numeral as numeralOf, before_point, behind_point, size_from, size_of, amount_of};
+ghost use Rattle.values.specs.Numbers.{numeral as numeral_of, before_point, behind_point, size_from, size_of, amount_of};
 
 use text::is_digit;
 
 // The number that at most so many digits write.
 fn numeral(digits: &[u8], most: usize) -> Option<u64>
     requires { most ≤ 8 }
-    ensures value { result ≡ numeralOf most digits.now }
+    ensures value { result ≡ numeral_of most digits.now }
     ensures small { IfSome result (λ n. (n < 10 ^ length digits.now) × (length digits.now ≤ most)) }
 {
     if digits.len() > most {
