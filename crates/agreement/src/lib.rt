@@ -1,4 +1,6 @@
 // What the first decoder makes of a text, held to what the second made of it.
+#![tactic(auto)]
+
 use calendar::date::Date;
 use cases::Case;
 use daylight::law_rule::LawRule;

@@ -1,4 +1,6 @@
 // What is printed of the trials of a decoder: of single texts, and the tallies of many.
+#![tactic(auto)]
+
 mod single;
 mod tally;
 

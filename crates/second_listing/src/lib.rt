@@ -1,4 +1,6 @@
 // Records of the second decoder as listing lines.
+#![tactic(auto)]
+
 mod listing;
 
 pub use listing::{Entry, Name, listed, padded};

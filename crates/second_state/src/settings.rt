@@ -166,10 +166,10 @@ fn read_variable(rest: &[u8]) -> Option<Option<u16>> {
 }
 
 fn read_units(rest: &[u8]) -> Option<Setting> {
-    if rest == b"E" {
+    if rest == b"E".as_slice() {
         return Some(Setting::Units { si: false });
     }
-    if rest == b"S" {
+    if rest == b"S".as_slice() {
         Some(Setting::Units { si: true })
     } else {
         None

@@ -1,4 +1,6 @@
 // The calendar of the second decoder: days, readings, moves, zones and the daylight law.
+#![tactic(auto)]
+
 pub mod dates;
 pub mod days;
 pub mod moves;

@@ -98,13 +98,13 @@ fn converted(amount: i64, element: Element) -> Option<i64> {
 }
 
 pub fn read_value(text: &[u8], element: Element, si: bool) -> Result<Value, Bad> {
-    if text == b"M" || text == b"MM" {
+    if text == b"M".as_slice() || text == b"MM".as_slice() {
         return Ok(Value {
             amount: None,
             qualifier: b'Z',
         });
     }
-    if text == b"T" && element.traced {
+    if text == b"T".as_slice() && element.traced {
         return Ok(Value {
             amount: Some(10),
             qualifier: b'Z',

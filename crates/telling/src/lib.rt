@@ -1,4 +1,6 @@
 // Outcomes in the form in which cases tell them.
+#![tactic(auto)]
+
 mod outcomes;
 mod saying;
 

@@ -1,4 +1,6 @@
 // Trials of a decoder against the second one: on the cases of a list as they stand, joined and damaged.
+#![tactic(auto)]
+
 use cases::Case;
 use reporting::{NONE, Tally, case_line, counted, is_as_told, show_difference, show_tally};
 use second::Outcome;
