@@ -1,5 +1,7 @@
 // Texts for decoders, good and damaged, each with a current date and a room for records. Where the
 // outcome was worked out by hand from the rules, it stands with the text.
+#![tactic(auto)]
+
 mod damage;
 mod form;
 mod settings;

@@ -1,5 +1,7 @@
 // Runs the second decoder over all cases and their damaged forms. Outcomes that are told with a case
 // are held to what came, and every outcome is held to that of the first decoder.
+#![tactic(auto)]
+
 use cases::Case;
 use second::Outcome;
 use std::alloc::{AllocError, Global};

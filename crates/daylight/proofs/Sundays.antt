@@ -2,7 +2,7 @@
 use Rattle.std.proofs.Common.{◌≡◌, ℕ, zero, suc, ◌+◌, ◌-◌, ◌%◌, ◌<◌, ◌≤◌, false, ◌⊎◌, List, [], ◌∷◌, ◌++◌, refl, ap, ◌∙◌, inl, inr, arith}
 use Rattle.std.proofs.lemmas.Bool.{cond-true, cond-false, eq-eqb, ne_eqb, eqb-true, cases_eq}
 use Rattle.std.proofs.lemmas.Bool.Decides.{nat_tests}
-use Rattle.std.specs.List.{AllByRecursion as All}
+use Rattle.std.specs.List.{AllByRecursion}
 use Rattle.calendar.specs.declared.date.Date.{Date}
 use Rattle.calendar.specs.Dates.{years_before, months_before}
 use Rattle.daylight.specs.declared.span.MonthDay.{MonthDay}
@@ -62,12 +62,12 @@ law_days r a b is-a is_b =
     ap (λ x. between (record { month = 3; day = x }) (record { month = 11; day = sunday_from 6 r.0.year 11 1 }) r) (only r.0.year 3 8 14 a (omega arith) is-a)
     ∙ ap (λ x. between (record { month = 3; day = a }) (record { month = 11; day = x }) r) (only r.0.year 11 1 7 b (omega arith) is_b)
 
-first_listed : (cs ds : List Change) (c : Change) (r : Date × ℕ) → All (λ e. e.year ≡ r.0.year → ⊥) cs → c.year ≡ r.0.year → list_daylight (cs ++ (c ∷ ds)) r ≡ between c.first c.last r
+first_listed : (cs ds : List Change) (c : Change) (r : Date × ℕ) → AllByRecursion (λ e. e.year ≡ r.0.year → ⊥) cs → c.year ≡ r.0.year → list_daylight (cs ++ (c ∷ ds)) r ≡ between c.first c.last r
 first_listed [] ds c r others same = cond-true _ _ _ (eq-eqb c.year r.0.year same)
 first_listed (x ∷ cs) ds c r others same =
     cond-false _ (between x.first x.last r) _ (ne_eqb x.year r.0.year others.0) ∙ first_listed cs ds c r others.1 same
 
-not_listed : (cs : List Change) (r : Date × ℕ) → All (λ e. e.year ≡ r.0.year → ⊥) cs → list_daylight cs r ≡ false
+not_listed : (cs : List Change) (r : Date × ℕ) → AllByRecursion (λ e. e.year ≡ r.0.year → ⊥) cs → list_daylight cs r ≡ false
 not_listed [] r others = refl
 not_listed (x ∷ cs) r others =
     cond-false _ (between x.first x.last r) _ (ne_eqb x.year r.0.year others.0) ∙ not_listed cs r others.1

@@ -1,6 +1,6 @@
 -- What the daylight rules mean, in words of Sundays and of lists.
 use Rattle.std.specs.Prelude.{◌≡◌, ℕ, ◌-◌, ◌<◌, ◌≤◌, true, false, ◌⊎◌, List, ◌∷◌, ◌++◌, ◌≢◌}
-use Rattle.std.specs.List.{AllByRecursion as All}
+use Rattle.std.specs.List.{AllByRecursion}
 use Rattle.calendar.specs.declared.date.Date.{Date}
 use Rattle.daylight.specs.declared.span.MonthDay.{MonthDay}
 use Rattle.daylight.specs.declared.list_rule.Change.{Change}
@@ -24,9 +24,9 @@ pub record Rules : Type 0 where
   -- the Sunday of the second week has one a week before it, so it is the second of the month
   pub week_before : (y m d : ℕ) → SundayAmong y m 8 14 d → SundayAmong y m 1 7 (d - 7)
   -- the first entry for a year counts
-  pub first_entry : (cs ds : List Change) (c : Change) (r : Date × ℕ) → All (λ e. e.year ≢ r.0.year) cs → c.year ≡ r.0.year →
+  pub first_entry : (cs ds : List Change) (c : Change) (r : Date × ℕ) → AllByRecursion (λ e. e.year ≢ r.0.year) cs → c.year ≡ r.0.year →
       list_daylight (cs ++ (c ∷ ds)) r ≡ between c.first c.last r
   -- an unlisted year has no daylight
-  pub unlisted : (cs : List Change) (r : Date × ℕ) → All (λ e. e.year ≢ r.0.year) cs → list_daylight cs r ≡ false
+  pub unlisted : (cs : List Change) (r : Date × ℕ) → AllByRecursion (λ e. e.year ≢ r.0.year) cs → list_daylight cs r ≡ false
   -- where the first day is not before the last no reading lies between them
   pub no_span : (a b : MonthDay) (r : Date × ℕ) → (b.month < a.month) ⊎ ((b.month ≡ a.month) × (b.day ≤ a.day)) → between a b r ≡ false

@@ -1,4 +1,6 @@
 // Decode for programs in C and in Rust.
+#![tactic(auto)]
+
 ghost use Rattle.std.specs.Prelude.{◌≡◌, ◌*◌, ◌/◌, length, take, drop};
 ghost use Rattle.events.specs.Events.{met, records};
 ghost use Rattle.exports.specs.Lawful.{lawful};

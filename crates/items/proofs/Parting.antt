@@ -14,7 +14,7 @@ use Rattle.std.proofs.ByRecursion.{All-drop, All-push}
 use Rattle.std.proofs.lemmas.List.{drop_all, drop-append-le, drop-drop, drop-take, length-take-le, reverse-append, take_all, take-append-drop, take_more}
 use Rattle.std.proofs.lemmas.List.Sums.{prefix_len-le-length}
 use Rattle.std.proofs.lemmas.Bool.{cases_Bool, cases_lt, cond-false, cond-true}
-use Rattle.std.specs.List.{suffix_len, prefix_len, AllByRecursion as All}
+use Rattle.std.specs.List.{suffix_len, prefix_len, AllByRecursion}
 
 -- marks of a front and of what follows it
 pub marks-take : (n : ℕ) (s : Bool) (xs : List ℕ) → marks s (take n xs) ≡ take n (marks s xs)
@@ -37,12 +37,12 @@ marks-append s (x ∷ xs) ys = ap (λ l. mark_of s x ∷ l) (marks-append (after
 
 module _ (p : Mark → Bool) where
   -- the run at the front passes, and what follows it begins with no run
-  pub all_leading : (ms : List Mark) → All (λ m. p m ≡ true) (take (prefix_len p ms) ms)
+  pub all_leading : (ms : List Mark) → AllByRecursion (λ m. p m ≡ true) (take (prefix_len p ms) ms)
   all_leading [] = tt
   all_leading (m ∷ ms) =
       ⊎_elim
-      (λ is. subst (λ n. All (λ m. p m ≡ true) (take n (m ∷ ms))) (sym (cond-true (p m) (1 + prefix_len p ms) 0 is ∙ one-add (prefix_len p ms))) (is, all_leading ms))
-      (λ is. subst (λ n. All (λ m. p m ≡ true) (take n (m ∷ ms))) (sym (cond-false (p m) (1 + prefix_len p ms) 0 is)) tt)
+      (λ is. subst (λ n. AllByRecursion (λ m. p m ≡ true) (take n (m ∷ ms))) (sym (cond-true (p m) (1 + prefix_len p ms) 0 is ∙ one-add (prefix_len p ms))) (is, all_leading ms))
+      (λ is. subst (λ n. AllByRecursion (λ m. p m ≡ true) (take n (m ∷ ms))) (sym (cond-false (p m) (1 + prefix_len p ms) 0 is)) tt)
       (cases_Bool (p m))
 
   pub no_leading : (ms : List Mark) → prefix_len p (drop (prefix_len p ms) ms) ≡ 0
@@ -66,7 +66,7 @@ module _ (p : Mark → Bool) where
   ending_rest xs ys h = leading_front (reverse ys) (reverse xs) (ap (prefix_len p) (sym (reverse-append xs ys)) ∙ h)
 
 abbrev pub Passes : Run → List Mark → Type 0
-Passes run ms = All (λ m. passes run m ≡ true) ms
+Passes run ms = AllByRecursion (λ m. passes run m ≡ true) ms
 
 -- behind the edge only the run is left, and before it none, for each front of the marks
 module _ (run : Run) (ms : List Mark) where

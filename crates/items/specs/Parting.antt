@@ -6,7 +6,7 @@ use Rattle.items.specs.Items.{body_items, message_items}
 use Rattle.items.specs.Marks.{after, marks, passes}
 use Rattle.reader.specs.Lines.{Piece}
 use Rattle.items.specs.Words.{first_word}
-use Rattle.std.specs.List.{suffix_len, prefix_len, AllByRecursion as All}
+use Rattle.std.specs.List.{suffix_len, prefix_len, AllByRecursion}
 
 -- whether a comment is open behind the bytes, if one is (`inside`) before them
 abbrev pub leaves : Bool → List ℕ → Bool
@@ -15,7 +15,7 @@ leaves inside (b ∷ bs) = leaves (after inside b) bs
 
 -- all the bytes read as the run wants
 abbrev pub Reads : Run → Bool → List ℕ → Type 0
-Reads run inside bs = All (λ m. passes run m ≡ true) (marks inside bs)
+Reads run inside bs = AllByRecursion (λ m. passes run m ≡ true) (marks inside bs)
 
 -- the item is what stands at its place in the bytes from p on, with nothing but the run before it and behind it, and none of it at its ends
 pub record Trimmed (run : Run) (p : ℕ) (bs : List ℕ) (item : Piece) : Type 0 where

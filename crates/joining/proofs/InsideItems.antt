@@ -1,7 +1,7 @@
 -- The items of a line end in it, and so do its number and its words. Assumes nothing.
 use Rattle.std.proofs.Common.{◌≡◌, ℕ, ◌+◌, ◌-◌, ◌≤◌, Bool, true, false, cond, eqb, List, [], ◌∷◌, ◌++◌, length, take, drop, IfSome, Some, None, Option, ap, ◌∙◌, arith, length-append, MatchOption}
 use Rattle.std.specs.Option.{option_map}
-use Rattle.std.specs.List.{prefix_len, AllByRecursion as All}
+use Rattle.std.specs.List.{prefix_len, AllByRecursion}
 use Rattle.std.proofs.lemmas.List.Edits.{length-between}
 use Rattle.std.proofs.ByRecursion.{All-map, All-weaker}
 use Rattle.std.proofs.lemmas.List.{length-drop, length_push, length-take}
@@ -80,10 +80,10 @@ pub word_ends : (line : List ℕ) (from : ℕ) → WordEnds line from (first_wor
 word_ends line from = found_ends line from (first_word (drop from line)) (words_found (drop from line))
 
 module _ (e : ℕ) where
-  pieces_end : (p : ℕ) (part : List ℕ) (s : Bool) (xs : List ℕ) → p + length part + length xs ≤ e → All (Ends e) (pieces p part s xs)
+  pieces_end : (p : ℕ) (part : List ℕ) (s : Bool) (xs : List ℕ) → p + length part + length xs ≤ e → AllByRecursion (Ends e) (pieces p part s xs)
   pieces_end p part s [] le = (omega arith, tt)
   pieces_end p part s (b ∷ bs) le =
-      elim (is_slash (mark_of s b)) as (λ v. All (Ends e) (cond v ((p, part) ∷ pieces (p + length part + 1) [] (after s b) bs) (pieces p (part ++ b ∷ []) (after s b) bs))) [
+      elim (is_slash (mark_of s b)) as (λ v. AllByRecursion (Ends e) (cond v ((p, part) ∷ pieces (p + length part + 1) [] (after s b) bs) (pieces p (part ++ b ∷ []) (after s b) bs))) [
         | true ↦ (omega arith, pieces_end (p + length part + 1) [] (after s b) bs (omega arith))
         | false ↦ pieces_end p (part ++ b ∷ []) (after s b) bs (omega (arith, length_push part b))
       ]
@@ -93,56 +93,56 @@ module _ (e : ℕ) where
       let ms = marks false q.1 in
       omega (arith, length-marks false q.1, prefix_len-le-length (passes run) ms, length-between q.1 (prefix_len (passes run) ms) (edge run ms) (omega (arith, length-marks false q.1)))
 
-  cut_end : (q : Piece) → Ends e q → All (Ends e) (cut_items q)
+  cut_end : (q : Piece) → Ends e q → AllByRecursion (Ends e) (cut_items q)
   cut_end q le =
       let ps = pieces q.0 [] false q.1 in
       All-map (Ends e) (trimmed Blanks) ps (All-weaker (Ends e) (λ x. Ends e (trimmed Blanks x)) (trimmed_ends Blanks) ps (pieces_end q.0 [] false q.1 (omega arith)))
 
-  items_end : (p : ℕ) (bs : List ℕ) → p + length bs ≤ e → All (Ends e) (message_items p bs)
+  items_end : (p : ℕ) (bs : List ℕ) → p + length bs ≤ e → AllByRecursion (Ends e) (message_items p bs)
   items_end p bs le = cut_end (trimmed Loose (p, bs)) (trimmed_ends Loose (p, bs) le)
 
-  body_of : (p : ℕ) (bs : List ℕ) → p + length bs ≤ e → All (Ends e) (body_items p bs)
+  body_of : (p : ℕ) (bs : List ℕ) → p + length bs ≤ e → AllByRecursion (Ends e) (body_items p bs)
   body_of p bs le =
       let mid : List ℕ = take (body_len (marks false bs)) bs in
-      elim (is_blank mid) as (λ v. All (Ends e) (cond v [] (cut_items (p, mid)))) [ true ↦ tt | false ↦ cut_end (p, mid) (omega (arith, length-take (body_len (marks false bs)) bs)) ]
+      elim (is_blank mid) as (λ v. AllByRecursion (Ends e) (cond v [] (cut_items (p, mid)))) [ true ↦ tt | false ↦ cut_end (p, mid) (omega (arith, length-take (body_len (marks false bs)) bs)) ]
 
   module _ (l : Piece) (le : Ends e l) where
     -- the items of a line from an offset on
     behind : (from : ℕ) → from ≤ length l.1 → l.0 + from + length (drop from l.1) ≤ e
     behind from h = omega (arith, length-drop from l.1)
 
-    pub message_end : (from : ℕ) → from ≤ length l.1 → All (Ends e) (message_items (l.0 + from) (drop from l.1))
+    pub message_end : (from : ℕ) → from ≤ length l.1 → AllByRecursion (Ends e) (message_items (l.0 + from) (drop from l.1))
     message_end from h = items_end (l.0 + from) (drop from l.1) (behind from h)
 
-    pub body_end : (from : ℕ) → from ≤ length l.1 → All (Ends e) (body_items (l.0 + from) (drop from l.1))
+    pub body_end : (from : ℕ) → from ≤ length l.1 → AllByRecursion (Ends e) (body_items (l.0 + from) (drop from l.1))
     body_end from h = body_of (l.0 + from) (drop from l.1) (behind from h)
 
-    behind_end : (o : Option Number) → NumberEnds l.1 o → All (Ends e) (behind_number l o)
+    behind_end : (o : Option Number) → NumberEnds l.1 o → AllByRecursion (Ends e) (behind_number l o)
     behind_end None h = tt
     behind_end (Some c) h = message_end c.start h
 
-    pub continued_end : All (Ends e) (continued_items l)
+    pub continued_end : AllByRecursion (Ends e) (continued_items l)
     continued_end = behind_end (continuation_of l.1) (number_ends l.1)
 
-  filled_end : (qs : List Piece) → All (Ends e) qs → All (Ends e) (filled qs)
+  filled_end : (qs : List Piece) → AllByRecursion (Ends e) qs → AllByRecursion (Ends e) (filled qs)
   filled_end [] h = tt
-  filled_end (q ∷ qs) h = elim (eqb (length q.1) 0) as (λ v. All (Ends e) (cond v (filled qs) (q ∷ filled qs))) [ true ↦ filled_end qs h.1 | false ↦ (h.0, filled_end qs h.1) ]
+  filled_end (q ∷ qs) h = elim (eqb (length q.1) 0) as (λ v. AllByRecursion (Ends e) (cond v (filled qs) (q ∷ filled qs))) [ true ↦ filled_end qs h.1 | false ↦ (h.0, filled_end qs h.1) ]
 
-  answered_end : (next : List Piece → List Sided) → ((ls : List Piece) → All (Ends e) ls → All (PartEnds e) (next ls)) → (ls : List Piece) → All (Ends e) ls → All (PartEnds e) (answered next ls)
+  answered_end : (next : List Piece → List Sided) → ((ls : List Piece) → AllByRecursion (Ends e) ls → AllByRecursion (PartEnds e) (next ls)) → (ls : List Piece) → AllByRecursion (Ends e) ls → AllByRecursion (PartEnds e) (answered next ls)
   answered_end next k [] h = tt
-  answered_end next k (l ∷ ls) h = (h.0, elim (is_d l.1) as (λ v. All (PartEnds e) (cond v (answered next ls) (next ls))) [ true ↦ answered_end next k ls h.1 | false ↦ k ls h.1 ])
+  answered_end next k (l ∷ ls) h = (h.0, elim (is_d l.1) as (λ v. AllByRecursion (PartEnds e) (cond v (answered next ls) (next ls))) [ true ↦ answered_end next k ls h.1 | false ↦ k ls h.1 ])
 
-  from_end : (hs ls : List Piece) → All (Ends e) hs → All (Ends e) ls → All (PartEnds e) (from_header hs ls)
+  from_end : (hs ls : List Piece) → AllByRecursion (Ends e) hs → AllByRecursion (Ends e) ls → AllByRecursion (PartEnds e) (from_header hs ls)
   from_end [] ls g h = All-map (PartEnds e) of_line ls h
   from_end (x ∷ hs) ls g h = (
     g.0,
-    elim (is_d x.1) as (λ v. All (PartEnds e) (cond v (from_header hs ls) (answered (from_header hs) ls))) [
+    elim (is_d x.1) as (λ v. AllByRecursion (PartEnds e) (cond v (from_header hs ls) (answered (from_header hs) ls))) [
       | true ↦ from_end hs ls g.1 h
       | false ↦ answered_end (from_header hs) (λ ks k. from_end hs ks g.1 k) ls h
     ],
   )
 
-  pub header_end : (hs ls : List Piece) → All (Ends e) hs → All (Ends e) ls → All (PartEnds e) (from_header (filled hs) ls)
+  pub header_end : (hs ls : List Piece) → AllByRecursion (Ends e) hs → AllByRecursion (Ends e) ls → AllByRecursion (PartEnds e) (from_header (filled hs) ls)
   header_end hs ls g h = from_end (filled hs) ls (filled_end hs g) h
 
   own_one : (f : Form) (q : Piece) → Ends e q → PartEnds e (own_item f q)
@@ -150,6 +150,6 @@ module _ (e : ℕ) where
   own_one B q h = h
   own_one E q h = h
 
-  pub own_end : (f : Form) (qs : List Piece) → All (Ends e) qs → All (PartEnds e) (own_items f qs)
+  pub own_end : (f : Form) (qs : List Piece) → AllByRecursion (Ends e) qs → AllByRecursion (PartEnds e) (own_items f qs)
   own_end f [] h = tt
   own_end f (q ∷ qs) h = (own_one f q h.0, own_end f qs h.1)

@@ -1,6 +1,6 @@
 -- What lines come to stands where they do. Assumes nothing.
 use Rattle.std.proofs.Common.{ℕ, ◌+◌, ◌≤◌, Bool, true, false, cond, eqb, List, [], ◌∷◌, ◌++◌, length, drop, Ok, Err, Result, arith}
-use Rattle.std.specs.List.{AllByRecursion as All}
+use Rattle.std.specs.List.{AllByRecursion}
 use Rattle.std.proofs.ByRecursion.{All-append}
 use Rattle.std.proofs.lemmas.List.{length_push}
 use Rattle.merging.specs.Headers.{continued_items}
@@ -31,16 +31,16 @@ use Rattle.joining.proofs.InsideTurns.{Ends, PartEnds, follow_inside}
 abbrev Keeps : ℕ → Stage → Type 0
 Keeps e outside = Unit {0}
 Keeps e skipping = Unit {0}
-Keeps e (header m t p k hs) = All (Ends e) hs
-Keeps e (body m t hs) = All (Ends e) hs
+Keeps e (header m t p k hs) = AllByRecursion (Ends e) hs
+Keeps e (body m t hs) = AllByRecursion (Ends e) hs
 
 abbrev Moves : ℕ → Moved → Type 0
 Moves e (onto σ) = Keeps e σ
-Moves e (reads m p ps to) = All (PartEnds e) ps × ((q : Reached) → Keeps e (to q))
+Moves e (reads m p ps to) = AllByRecursion (PartEnds e) ps × ((q : Reached) → Keeps e (to q))
 Moves e (refuses f) = f.place ≤ e
 
 abbrev StretchEnds : ℕ → Stretch → Type 0
-StretchEnds e s = Ends e s.0 × All (Ends e) s.1
+StretchEnds e s = Ends e s.0 × AllByRecursion (Ends e) s.1
 
 module _ (e : ℕ) where
   module _ (l : Piece) (le : Ends e l) where
@@ -56,7 +56,7 @@ module _ (e : ℕ) where
           | false ↦ omega arith
         ]
 
-    continues_moves : (m : Common) (t : Standing) (p : Reached) (k : ℕ) (hs : List Piece) (f : Form) (v : Bool) → All (Ends e) hs → Moves e (continues m t p k hs f v l)
+    continues_moves : (m : Common) (t : Standing) (p : Reached) (k : ℕ) (hs : List Piece) (f : Form) (v : Bool) → AllByRecursion (Ends e) hs → Moves e (continues m t p k hs f v l)
     unfolding continues
     continues_moves m t p k hs f v h =
         let items = continued_end e l le in
@@ -69,7 +69,7 @@ module _ (e : ℕ) where
           | false ↦ omega arith
         ]
 
-    module _ (m : Common) (t : Standing) (hs : List Piece) (h : All (Ends e) hs) where
+    module _ (m : Common) (t : Standing) (hs : List Piece) (h : AllByRecursion (Ends e) hs) where
       line_moves : (r : Result (List ℕ × ℕ) Fault) → Within e (λ (x : List ℕ × ℕ). x.1 ≤ length l.1) r → Moves e (line_of m t hs l r)
       line_moves (Err x) w = w
       line_moves (Ok s) w = (header_end e hs (body_items (l.0 + s.1) (drop s.1 l.1)) h (body_end e l le s.1 w), λ q. h)
@@ -118,51 +118,51 @@ module _ (e : ℕ) where
     kind_moves S σ Dotted h = stage_moves σ Dotted h
     kind_moves S σ Other h = stage_moves σ Other h
 
-  came_inside : (S : Setting) (x : Moved) (k : Stage → List Event) → Moves e x → ((σ : Stage) → Keeps e σ → All (Inside e) (k σ)) → All (Inside e) (came S x k)
+  came_inside : (S : Setting) (x : Moved) (k : Stage → List Event) → Moves e x → ((σ : Stage) → Keeps e σ → AllByRecursion (Inside e) (k σ)) → AllByRecursion (Inside e) (came S x k)
   came_inside S (onto σ) k w h = h σ w
   came_inside S (reads m p ps to) k w h = follow_inside e S m p ps (λ q. k (to q)) w.0 (λ q. h (to q) (w.1 q))
   came_inside S (refuses f) k w h = (w, tt)
 
-  closing_inside : (σ : Stage) (d : ℕ) → d ≤ e → All (Inside e) (closing σ d)
+  closing_inside : (σ : Stage) (d : ℕ) → d ≤ e → AllByRecursion (Inside e) (closing σ d)
   closing_inside outside d h = tt
   closing_inside skipping d h = tt
-  closing_inside (header m t p i hs) d h = elim (is_table m.form) as (λ b. All (Inside e) (cond b (refused (Message why.Unfinished) d ∷ []) [])) [ true ↦ (h, tt) | false ↦ tt ]
+  closing_inside (header m t p i hs) d h = elim (is_table m.form) as (λ b. AllByRecursion (Inside e) (cond b (refused (Message why.Unfinished) d ∷ []) [])) [ true ↦ (h, tt) | false ↦ tt ]
   closing_inside (body m t hs) d h = (h, tt)
 
-  within_inside : (S : Setting) (d : ℕ) → d ≤ e → (σ : Stage) (ls : List Piece) → Keeps e σ → All (Ends e) ls → All (Inside e) (within S d σ ls)
+  within_inside : (S : Setting) (d : ℕ) → d ≤ e → (σ : Stage) (ls : List Piece) → Keeps e σ → AllByRecursion (Ends e) ls → AllByRecursion (Inside e) (within S d σ ls)
   within_inside S d le σ [] w h = closing_inside σ d le
   within_inside S d le σ (l ∷ ls) w h = came_inside S (next S σ l) (λ τ. within S d τ ls) (kind_moves l h.0 S σ (kind_of l.1) w) (λ τ g. within_inside S d le τ ls g h.1)
 
-  cut_ends : (ls : List Piece) → All (Ends e) ls → All (Ends e) (cut ls).0 × All (StretchEnds e) (cut ls).1
+  cut_ends : (ls : List Piece) → AllByRecursion (Ends e) ls → AllByRecursion (Ends e) (cut ls).0 × AllByRecursion (StretchEnds e) (cut ls).1
   cut_ends [] h = (tt, tt)
   cut_ends (l ∷ ls) h =
       let rest = cut_ends ls h.1 in
-      elim (is_opening (kind_of l.1)) as (λ b. All (Ends e) (on_front b l (cut ls)).0 × All (StretchEnds e) (on_front b l (cut ls)).1) [ true ↦ (tt, ((h.0, rest.0), rest.1)) | false ↦ ((h.0, rest.0), rest.1) ]
+      elim (is_opening (kind_of l.1)) as (λ b. AllByRecursion (Ends e) (on_front b l (cut ls)).0 × AllByRecursion (StretchEnds e) (on_front b l (cut ls)).1) [ true ↦ (tt, ((h.0, rest.0), rest.1)) | false ↦ ((h.0, rest.0), rest.1) ]
 
-  end_inside : (ss : List Stretch) → All (StretchEnds e) ss → end_of e ss ≤ e
+  end_inside : (ss : List Stretch) → AllByRecursion (StretchEnds e) ss → end_of e ss ≤ e
   end_inside [] h = omega arith
   end_inside (s ∷ ss) h = omega (arith, h.0.0)
 
-  stretches_inside : (S : Setting) (ss : List Stretch) → All (StretchEnds e) ss → All (Inside e) (stretches S e ss)
+  stretches_inside : (S : Setting) (ss : List Stretch) → AllByRecursion (StretchEnds e) ss → AllByRecursion (Inside e) (stretches S e ss)
   stretches_inside S [] h = tt
   stretches_inside S (s ∷ ss) h =
       All-append (Inside e) (stretch S (end_of e ss) s) (stretches S e ss)
       (came_inside S (next S outside s.0) (λ σ. within S (end_of e ss) σ s.1) (kind_moves s.0 h.0.0 S outside (kind_of s.0.1) tt) (λ σ w. within_inside S (end_of e ss) (end_inside ss h.1) σ s.1 w h.0.1))
       (stretches_inside S ss h.1)
 
-  last_ends : (p : ℕ) (line : List ℕ) → p + length line ≤ e → All (Ends e) (last_line p line)
+  last_ends : (p : ℕ) (line : List ℕ) → p + length line ≤ e → AllByRecursion (Ends e) (last_line p line)
   last_ends p [] h = tt
   last_ends p (b ∷ bs) h = (h, tt)
 
-  lines_end : (p : ℕ) (line text : List ℕ) → p + length line + length text ≤ e → All (Ends e) (lines_from p line text)
+  lines_end : (p : ℕ) (line text : List ℕ) → p + length line + length text ≤ e → AllByRecursion (Ends e) (lines_from p line text)
   lines_end p line [] h = last_ends p line (omega arith)
   lines_end p line (b ∷ bs) h =
-      elim (eqb b 10) as (λ v. All (Ends e) (cond v ((p, less_return line) ∷ lines_from (p + length line + 1) [] bs) (lines_from p (line ++ b ∷ []) bs))) [
+      elim (eqb b 10) as (λ v. AllByRecursion (Ends e) (cond v ((p, less_return line) ∷ lines_from (p + length line + 1) [] bs) (lines_from p (line ++ b ∷ []) bs))) [
         | true ↦ (omega (arith, return_le line), lines_end (p + length line + 1) [] bs (omega arith))
         | false ↦ lines_end p (line ++ b ∷ []) bs (omega (arith, length_push line b))
       ]
 
-  lines_inside : (S : Setting) (ls : List Piece) → All (Ends e) ls → All (Inside e) (within S (end_of e (cut ls).1) outside (cut ls).0 ++ stretches S e (cut ls).1)
+  lines_inside : (S : Setting) (ls : List Piece) → AllByRecursion (Ends e) ls → AllByRecursion (Inside e) (within S (end_of e (cut ls).1) outside (cut ls).0 ++ stretches S e (cut ls).1)
   lines_inside S ls h =
       let c = cut_ends ls h in
       All-append (Inside e) (within S (end_of e (cut ls).1) outside (cut ls).0) (stretches S e (cut ls).1)

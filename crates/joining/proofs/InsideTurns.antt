@@ -1,6 +1,6 @@
 -- Only an item that is not empty gives a record. Assumes nothing.
 use Rattle.std.proofs.Common.{ℕ, ◌+◌, ◌<◌, ◌≤◌, List, [], ◌∷◌, length, Some, None, Ok, Err, Option, arith}
-use Rattle.std.specs.List.{AllByRecursion as All}
+use Rattle.std.specs.List.{AllByRecursion}
 use Rattle.merging.specs.Merging.{Sided, of_header, of_line}
 use Rattle.reader.specs.Lines.{Piece}
 use Rattle.reader.specs.declared.kind.Form.{Form}
@@ -68,15 +68,15 @@ module _ (S : Setting) (m : Common) (p : Reached) where
   line_gives E item = e_gives item
 
 module _ (e : ℕ) where
-  logs_inside : (q : Piece) (o : Option Entry) (es : List Event) → Ends e q → Records q.1 o → All (Inside e) es → All (Inside e) (logs q.0 o es)
+  logs_inside : (q : Piece) (o : Option Entry) (es : List Event) → Ends e q → Records q.1 o → AllByRecursion (Inside e) es → AllByRecursion (Inside e) (logs q.0 o es)
   logs_inside q None es le g h = h
   logs_inside q (Some x) es le g h = (omega arith, h)
 
-  turn_inside : (q : Piece) (t : Turned) (k : Reached → List Event) → Ends e q → Gives q.1 t → ((r : Reached) → All (Inside e) (k r)) → All (Inside e) (turn_then q.0 t k)
+  turn_inside : (q : Piece) (t : Turned) (k : Reached → List Event) → Ends e q → Gives q.1 t → ((r : Reached) → AllByRecursion (Inside e) (k r)) → AllByRecursion (Inside e) (turn_then q.0 t k)
   turn_inside q (Err r) k le g h = (omega arith, tt)
   turn_inside q (Ok t) k le g h = logs_inside q t.1 (k t.0) le g (h t.0)
 
-  pub follow_inside : (S : Setting) (m : Common) (p : Reached) (xs : List Sided) (k : Reached → List Event) → All (PartEnds e) xs → ((r : Reached) → All (Inside e) (k r)) → All (Inside e) (follow S m p xs k)
+  pub follow_inside : (S : Setting) (m : Common) (p : Reached) (xs : List Sided) (k : Reached → List Event) → AllByRecursion (PartEnds e) xs → ((r : Reached) → AllByRecursion (Inside e) (k r)) → AllByRecursion (Inside e) (follow S m p xs k)
   follow_inside S m p [] k les h = h p
   follow_inside S m p (of_header q ∷ xs) k les h = turn_inside q (item_of_header S m p q.1) (λ r. follow S m r xs k) les.0 (header_gives S m p q.1) (λ r. follow_inside S m r xs k les.1 h)
   follow_inside S m p (of_line q ∷ xs) k les h = turn_inside q (item_of_line m.form S m p q.1) (λ r. follow S m r xs k) les.0 (line_gives S m p m.form q.1) (λ r. follow_inside S m r xs k les.1 h)

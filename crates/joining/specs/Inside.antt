@@ -1,6 +1,6 @@
 -- Where the events of a text stand.
 use Rattle.std.specs.Prelude.{ℕ, ◌<◌, ◌≤◌, List, length}
-use Rattle.std.specs.List.{AllByRecursion as All}
+use Rattle.std.specs.List.{AllByRecursion}
 use Rattle.events.specs.Events.{Event, logged, refused}
 use Rattle.messages.specs.Models.{Setting}
 use Rattle.shef.specs.Texts.{events}
@@ -11,4 +11,4 @@ Inside e (logged p x) = p < e
 Inside e (refused r p) = p ≤ e
 
 abbrev pub PlacesInside : Type 0
-PlacesInside = (S : Setting) (text : List ℕ) → All (Inside (length text)) (events S text)
+PlacesInside = (S : Setting) (text : List ℕ) → AllByRecursion (Inside (length text)) (events S text)

@@ -1,4 +1,6 @@
 // How two texts read one behind the other, and where the events of a text stand in it.
+#![tactic(auto)]
+
 ghost use Rattle.joining.specs.Inside.{PlacesInside};
 ghost use Rattle.joining.specs.Joining.{TextsJoin};
 

@@ -1,6 +1,6 @@
 -- The body lines of a table, each read by itself.
 use Rattle.std.proofs.Common.{◌≡◌, ℕ, true, false, cond, List, [], ◌∷◌, ◌++◌, Ok, Err, Result, sym, refl, ap, ◌∙◌, append_assoc}
-use Rattle.std.specs.List.{flat_map, AllByRecursion as All}
+use Rattle.std.specs.List.{flat_map, AllByRecursion}
 use Rattle.items.specs.Items.{is_blank}
 use Rattle.reader.specs.Kinds.{kind_of, readable}
 use Rattle.reader.specs.Lines.{Piece}
@@ -41,7 +41,7 @@ module _ (S : Setting) (m : Common) (t : Standing) (hs : List Piece) where
     one_line : (l : Piece) (ls : List Piece) → Plain l → within S e (body m t hs) (l ∷ ls) ≡ came S (body_line m t hs l) (λ _. within S e (body m t hs) ls)
     one_line l ls plain = ap (λ k. came S (by_kind S (body m t hs) l k) (λ τ. within S e τ ls)) plain ∙ line_leads l (λ τ. within S e τ ls)
 
-    each : (ls more : List Piece) → All (Reads S m t hs) ls → within S e (body m t hs) (ls ++ more) ≡ flat_map (body_events S m t hs) ls ++ within S e (body m t hs) more
+    each : (ls more : List Piece) → AllByRecursion (Reads S m t hs) ls → within S e (body m t hs) (ls ++ more) ≡ flat_map (body_events S m t hs) ls ++ within S e (body m t hs) more
     each [] more h = refl
     each (l ∷ ls) more h =
         one_line l (ls ++ more) h.0.0
@@ -62,7 +62,7 @@ module _ (S : Setting) (m : Common) (t : Standing) (hs : List Piece) where
       closes : (l : Piece) (rest : List Piece) → kind_of l.1 ≡ End → within S e (body m t hs) (l ∷ rest) ≡ within S e outside rest
       closes l rest end = ap (λ k. came S (by_kind S (body m t hs) l k) (λ τ. within S e τ rest)) end
 
-      table : (ls : List Piece) (l : Piece) (rest : List Piece) → All (Reads S m t hs) ls → kind_of l.1 ≡ End
+      table : (ls : List Piece) (l : Piece) (rest : List Piece) → AllByRecursion (Reads S m t hs) ls → kind_of l.1 ≡ End
           → within S e (header m t p n hs) (ls ++ l ∷ rest) ≡ flat_map (body_events S m t hs) ls ++ within S e outside rest
       table [] l rest h end =
           ap (λ k. came S (by_kind S (header m t p n hs) l k) (λ τ. within S e τ rest)) end ∙ ap (λ b. came S (cond b (in_body m t hs l End) (onto outside)) (λ τ. within S e τ rest)) is

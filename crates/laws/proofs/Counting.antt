@@ -1,7 +1,7 @@
 -- How many records items come to.
 use Rattle.std.proofs.Common.{◌≡◌, ℕ, ◌+◌, ◌-◌, ◌≤◌, Bool, true, false, cond, List, [], ◌∷◌, ◌++◌, length, is_some, Some, None, Ok, Err, Option, Result, sym, refl, ap, ◌∙◌, append-nil, arith}
 use Rattle.std.specs.Option.{ok_or}
-use Rattle.std.specs.List.{AllByRecursion as All}
+use Rattle.std.specs.List.{AllByRecursion}
 use Rattle.std.proofs.lemmas.Bool.{true≢false}
 use Rattle.merging.specs.Merging.{Sided, of_header, of_line, is_d, filled, from_header, own_items as line_items}
 use Rattle.items.specs.Words.{split_item}
@@ -185,11 +185,11 @@ module _ (S : Setting) (m : Common) (p : Reached) (x : Sided) (xs : List Sided) 
   read_turn (Err r) e h more = upto [] x xs [] r refl (λ k. ap (λ y. turn_then (place_of x) y (λ q. follow S m q xs k)) e) (omega arith)
   read_turn (Ok t) e h more = read_one t e h (more t.0)
 
-pub counted : (S : Setting) (m : Common) (p : Reached) (xs : List Sided) → All (Fits m.form) xs → Counted S m p xs
+pub counted : (S : Setting) (m : Common) (p : Reached) (xs : List Sided) → AllByRecursion (Fits m.form) xs → Counted S m p xs
 counted S m p [] h = all [] p (λ k. refl) (omega arith) (omega arith)
 counted S m p (x ∷ xs) h = read_turn S m p x xs (turn S m p x) refl (turn_tallies S m p x h.0) (λ q. counted S m q xs h.1)
 
-pub own_fits : (f : Form) (qs : List Piece) → All (Fits f) (own_items f qs)
+pub own_fits : (f : Form) (qs : List Piece) → AllByRecursion (Fits f) (own_items f qs)
 own_fits A [] = tt
 own_fits A (q ∷ qs) = (tt, own_fits A qs)
 own_fits B [] = tt
@@ -201,7 +201,7 @@ fits_one : (f : Form) → is_table f ≡ true → (x : Sided) → Fits f x
 fits_one f h (of_header q) = h
 fits_one f h (of_line q) = tt
 
-pub table_fits : (f : Form) → is_table f ≡ true → (xs : List Sided) → All (Fits f) xs
+pub table_fits : (f : Form) → is_table f ≡ true → (xs : List Sided) → AllByRecursion (Fits f) xs
 table_fits f h [] = tt
 table_fits f h (x ∷ xs) = (fits_one f h x, table_fits f h xs)
 

@@ -1,6 +1,6 @@
 -- A refusal is the last event of its message.
 use Rattle.std.proofs.Common.{◌≡◌, ℕ, ◌+◌, ◌≤◌, true, false, cond, List, [], ◌∷◌, ◌++◌, length, Some, None, Option, sym, refl, ap, ◌∙◌, subst, append_assoc, arith, length-append}
-use Rattle.std.specs.List.{AllByRecursion as All}
+use Rattle.std.specs.List.{AllByRecursion}
 use Rattle.std.proofs.lemmas.Bool.{true≢false}
 use Rattle.reader.specs.Kinds.{kind_of}
 use Rattle.reader.specs.Lines.{Piece, lines}
@@ -65,7 +65,7 @@ none_kind S l End rest h r = r
 none_kind S l Dotted rest h r = r
 none_kind S l Other rest h r = r
 
-none_logged : (S : Setting) (e : ℕ) (ls : List Piece) → All NoOpening ls → records (within S e outside ls) ≡ []
+none_logged : (S : Setting) (e : ℕ) (ls : List Piece) → AllByRecursion NoOpening ls → records (within S e outside ls) ≡ []
 none_logged S e [] hs = refl
 none_logged S e (l ∷ ls) hs = none_kind S l (kind_of l.1) (λ τ. within S e τ ls) hs.0 (none_logged S e ls hs.1)
 

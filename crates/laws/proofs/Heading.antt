@@ -1,7 +1,7 @@
 -- A body line is never refused for the sake of its header.
 use Rattle.std.proofs.Common.{◌≡◌, ℕ, ◌+◌, ◌≤◌, Bool, true, false, cond, eqb, List, [], ◌∷◌, ◌++◌, map, length, take, drop, is_some, Some, None, Ok, Err, Option, Result, sym, refl, ap, ◌∙◌, inl, inr, arith}
 use Rattle.std.specs.Option.{option_map, ok_or}
-use Rattle.std.specs.List.{AllByRecursion as All}
+use Rattle.std.specs.List.{AllByRecursion}
 use Rattle.std.proofs.ByRecursion.{All-append, All-weaker}
 use Rattle.std.proofs.lemmas.Bool.{true≢false}
 use Rattle.items.specs.Items.{trimmed, pieces, body_items, is_blank}
@@ -82,7 +82,7 @@ turn_read place (Ok t) k none = (refl, (t.0, sym (logs-none place t.1 (k t.0)) �
 -- faults at places of which P holds
 module _ (P : ℕ → Type 0) where
   abbrev Fine : List Event → Type 0
-  Fine es = All (λ f. P f.place) (refusals es)
+  Fine es = AllByRecursion (λ f. P f.place) (refusals es)
 
   logs_fine : (place : ℕ) (o : Option Entry) (es : List Event) → Fine es → Fine (logs place o es)
   logs_fine place None es h = h
@@ -101,20 +101,20 @@ module _ (S : Setting) (m : Common) (name : List ℕ) where
   abbrev Good : Piece → Type 0
   Good h = (p : Reached) → good (item_of_header S (of_station m name) p h.1) ≡ true
 
-  all_good : (hs : List Piece) (p : Reached) → refusals (follow S m p (own_items B hs) (λ _. [])) ≡ [] → All Good hs
+  all_good : (hs : List Piece) (p : Reached) → refusals (follow S m p (own_items B hs) (λ _. [])) ≡ [] → AllByRecursion Good hs
   all_good [] p none = tt
   all_good (h ∷ hs) p none =
       let r = turn_read h.0 (item_of_header S m p h.1) (λ q. follow S m q (own_items B hs) (λ _. [])) none in
       ((λ q. sym (header_alike S m name h.1 p q) ∙ r.0), all_good hs r.1.0 r.1.1)
 
-  filled_good : (hs : List Piece) → All Good hs → All Good (filled hs)
+  filled_good : (hs : List Piece) → AllByRecursion Good hs → AllByRecursion Good (filled hs)
   filled_good [] all = tt
   filled_good (h ∷ hs) all =
-      elim (eqb (length h.1) 0) as (λ b. All Good (cond b (filled hs) (h ∷ filled hs))) [ true ↦ filled_good hs all.1 | false ↦ (all.0, filled_good hs all.1) ]
+      elim (eqb (length h.1) 0) as (λ b. AllByRecursion Good (cond b (filled hs) (h ∷ filled hs))) [ true ↦ filled_good hs all.1 | false ↦ (all.0, filled_good hs all.1) ]
 
   module _ (P : ℕ → Type 0) (k : Reached → List Event) (then : (q : Reached) → Fine P (k q)) where
     abbrev Own : List Piece → Type 0
-    Own ls = All (λ q. P q.0) ls
+    Own ls = AllByRecursion (λ q. P q.0) ls
 
     abbrev Comes : Reached → List Sided → Type 0
     Comes p xs = Fine P (follow S (of_station m name) p xs k)
@@ -131,7 +131,7 @@ module _ (S : Setting) (m : Common) (name : List ℕ) where
         turn_fine P l.0 (turn S (of_station m name) p (of_line l)) (λ q. follow S (of_station m name) q (rest (is_d l.1)) k) own.0
         (λ q. elim (is_d l.1) as (λ b. Comes q (rest b)) [ true ↦ answered_fine next n ls q own.1 | false ↦ n ls q own.1 ])
 
-    merged_fine : (hs : List Piece) → All Good hs → (ls : List Piece) (p : Reached) → Own ls → Comes p (from_header hs ls)
+    merged_fine : (hs : List Piece) → AllByRecursion Good hs → (ls : List Piece) (p : Reached) → Own ls → Comes p (from_header hs ls)
     merged_fine [] all ls p own = line_fine ls p own
     merged_fine (h ∷ hs) all ls p own =
         let rest : Bool → List Sided = λ b. cond b (from_header hs ls) (answered (from_header hs) ls) in
@@ -152,7 +152,7 @@ module _ (S : Setting) (m : Common) where
   unfolding item_of_header d_item
   of_zone p item = refl
 
-  read_all : (hs : List Piece) (p : Reached) → All (Good S m []) hs → refusals (follow S m p (own_items B hs) (λ _. [])) ≡ []
+  read_all : (hs : List Piece) (p : Reached) → AllByRecursion (Good S m []) hs → refusals (follow S m p (own_items B hs) (λ _. [])) ≡ []
   read_all [] p all = refl
   read_all (h ∷ hs) p all =
       good_none h.0 (item_of_header S m p h.1) (λ q. follow S m q (own_items B hs) (λ _. [])) (sym (of_zone p h.1) ∙ all.0 p) (λ q. read_all hs q all.1)
@@ -160,18 +160,18 @@ module _ (S : Setting) (m : Common) where
   header_holds : (t : Standing) (p : Reached) (hs qs : List Piece) → HeaderRead S m t hs → refusals (follow S m p (own_items B qs) (λ _. [])) ≡ [] → HeaderRead S m t (hs ++ qs)
   header_holds t p hs qs read more = read_all (hs ++ qs) (fresh t) (All-append (Good S m []) hs qs (all_good S m [] hs (fresh t) read) (all_good S m [] qs p more))
 
-stands : (ls : List Piece) → All (λ q. StandsAt ls q.0) ls
+stands : (ls : List Piece) → AllByRecursion (λ q. StandsAt ls q.0) ls
 stands [] = tt
 stands (l ∷ ls) = (inl refl, All-weaker (λ (q : Piece). StandsAt ls q.0) (λ (q : Piece). StandsAt (l ∷ ls) q.0) (λ q h. inr h) ls (stands ls))
 
 line_holds : (S : Setting) (m : Common) (t : Standing) (hs ls : List Piece) (name : List ℕ)
-    → HeaderRead S m t hs → All (λ f. StandsAt ls f.place) (refusals (follow S (of_station m name) (fresh t) (from_header (filled hs) ls) (λ _. [])))
+    → HeaderRead S m t hs → AllByRecursion (λ f. StandsAt ls f.place) (refusals (follow S (of_station m name) (fresh t) (from_header (filled hs) ls) (λ _. [])))
 line_holds S m t hs ls name read = body_fine S m name (StandsAt ls) (λ _. []) (λ q. tt) t hs ls read (stands ls)
 
 -- the items of a stretch stand in it
 module _ (low : ℕ) where
   abbrev Behind : List Piece → Type 0
-  Behind qs = All (λ q. low ≤ q.0) qs
+  Behind qs = AllByRecursion (λ q. low ≤ q.0) qs
 
   pieces-behind : (bs : List ℕ) (start : ℕ) (part : List ℕ) (inside : Bool) → low ≤ start → Behind (pieces start part inside bs)
   pieces-behind [] start part inside h = (h, tt)

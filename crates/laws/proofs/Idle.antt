@@ -1,6 +1,6 @@
 -- Lines that add nothing to a text.
 use Rattle.std.proofs.Common.{◌≡◌, ℕ, Bool, true, false, List, [], ◌∷◌, ◌++◌, length, sym, refl, ap, ◌∙◌, append-nil}
-use Rattle.std.specs.List.{AllByRecursion as All}
+use Rattle.std.specs.List.{AllByRecursion}
 use Rattle.std.proofs.lemmas.Bool.{true≢false}
 use Rattle.reader.specs.Kinds.{kind_of, is_continuation}
 use Rattle.reader.specs.Lines.{Piece, lines}
@@ -28,11 +28,11 @@ skip_one S l End rest h = refl
 skip_one S l Dotted rest h = refl
 skip_one S l Other rest h = refl
 
-pub between : (S : Setting) (e : ℕ) (ls : List Piece) → All NoOpening ls → All NoContinuation ls → within S e outside ls ≡ []
+pub between : (S : Setting) (e : ℕ) (ls : List Piece) → AllByRecursion NoOpening ls → AllByRecursion NoContinuation ls → within S e outside ls ≡ []
 between S e [] hs cs = refl
 between S e (l ∷ ls) hs cs = pass_one S l (kind_of l.1) (λ τ. within S e τ ls) hs.0 cs.0 ∙ between S e ls hs.1 cs.1
 
-skipped : (S : Setting) (e : ℕ) (ls : List Piece) → All NoOpening ls → within S e skipping ls ≡ []
+skipped : (S : Setting) (e : ℕ) (ls : List Piece) → AllByRecursion NoOpening ls → within S e skipping ls ≡ []
 skipped S e [] hs = refl
 skipped S e (l ∷ ls) hs = skip_one S l (kind_of l.1) (λ τ. within S e τ ls) hs.0 ∙ skipped S e ls hs.1
 
@@ -43,7 +43,7 @@ behind S e σ l ls some = behind_refused (came_runs S (next S σ l)) some (λ τ
 abbrev by_parts : Setting → ℕ → List Piece × List Stretch → List Event
 by_parts S e c = within S (end_of e c.1) outside c.0 ++ stretches S e c.1
 
-front : (S : Setting) (e : ℕ) (ls more : List Piece) → All NoOpening ls → All NoContinuation ls → to_come S e outside (ls ++ more) ≡ to_come S e outside more
+front : (S : Setting) (e : ℕ) (ls more : List Piece) → AllByRecursion NoOpening ls → AllByRecursion NoContinuation ls → to_come S e outside (ls ++ more) ≡ to_come S e outside more
 front S e [] more hs cs = refl
 front S e (l ∷ ls) more hs cs =
     let c = cut (ls ++ more) in
@@ -52,20 +52,20 @@ front S e (l ∷ ls) more hs cs =
     ∙ front S e ls more hs.1 cs.1
 
 -- no opening stands before the first
-before_one : (l : Piece) (b : Bool) (c : List Piece × List Stretch) → is_opening (kind_of l.1) ≡ b → All NoOpening c.0 → All NoOpening (on_front b l c).0
+before_one : (l : Piece) (b : Bool) (c : List Piece × List Stretch) → is_opening (kind_of l.1) ≡ b → AllByRecursion NoOpening c.0 → AllByRecursion NoOpening (on_front b l c).0
 before_one l true c e h = tt
 before_one l false c e h = (e, h)
 
-pub before : (ls : List Piece) → All NoOpening (cut ls).0
+pub before : (ls : List Piece) → AllByRecursion NoOpening (cut ls).0
 before [] = tt
 before (l ∷ ls) = before_one l (is_opening (kind_of l.1)) (cut ls) refl (before ls)
 
-preface : (S : Setting) (text : List ℕ) → All NoContinuation (cut (lines text)).0 → events S text ≡ stretches S (length text) (cut (lines text)).1
+preface : (S : Setting) (text : List ℕ) → AllByRecursion NoContinuation (cut (lines text)).0 → events S text ≡ stretches S (length text) (cut (lines text)).1
 preface S text cs =
     let c = cut (lines text) in
     ap (λ es. es ++ stretches S (length text) c.1) (between S (end_of (length text) c.1) c.0 (before (lines text)) cs)
 
-nothing : (S : Setting) (text : List ℕ) → All NoOpening (lines text) → All NoContinuation (lines text) → events S text ≡ []
+nothing : (S : Setting) (text : List ℕ) → AllByRecursion NoOpening (lines text) → AllByRecursion NoContinuation (lines text) → events S text ≡ []
 nothing S text hs cs = ap (to_come S (length text) outside) (sym (append-nil (lines text))) ∙ front S (length text) (lines text) [] hs cs
 
 pub lines_outside : LinesOutside

@@ -1,6 +1,6 @@
 -- How many records lines, messages and texts come to.
 use Rattle.std.proofs.Common.{◌≡◌, ℕ, ◌+◌, ◌-◌, ◌≤◌, Bool, true, false, cond, List, [], ◌∷◌, ◌++◌, length, drop, None, Ok, Err, Result, sym, refl, ap, ◌∙◌, subst, arith}
-use Rattle.std.specs.List.{flat_map, AllByRecursion as All}
+use Rattle.std.specs.List.{flat_map, AllByRecursion}
 use Rattle.std.proofs.lemmas.Bool.{true≢false}
 use Rattle.calendar.specs.Messages.{message_date}
 use Rattle.calendar.specs.declared.date.Date.{Date as Day}
@@ -280,7 +280,7 @@ at_end (header m t p n hs) e =
     tally_as (elim (is_table m.form) as (λ b. Tally 0 (cond b (refused (Message why.Unfinished) e ∷ []) [])) [ true ↦ tally_refused 0 (Message why.Unfinished) e | false ↦ no_events ]) (sym (headed_none m.form (due_at m p)))
 at_end (body m t hs) e = tally_refused 0 (Message why.Unfinished) e
 
-lines_count : (S : Setting) (e : ℕ) (ls : List Piece) → All NoOpening ls → (σ : Stage) → Sound σ → Tally (to_log σ ls) (within S e σ ls)
+lines_count : (S : Setting) (e : ℕ) (ls : List Piece) → AllByRecursion NoOpening ls → (σ : Stage) → Sound σ → Tally (to_log σ ls) (within S e σ ls)
 lines_count S e [] hs σ s = at_end σ e
 lines_count S e (l ∷ ls) hs σ s = one_more S e l ls (lines_count S e ls hs.1) σ s hs.0
 
@@ -298,7 +298,7 @@ unfolding opened
 opened_keeps today f v l =
     then_keeps f (field why.Station station_of l (letters_of l.1)) _ (λ n. then_keeps f (field why.Date (λ w. message_date w today) l n.1) _ (λ d. refl))
 
-module _ (S : Setting) (e : ℕ) (l : Piece) (ls : List Piece) (hs : All NoOpening ls) where
+module _ (S : Setting) (e : ℕ) (l : Piece) (ls : List Piece) (hs : AllByRecursion NoOpening ls) where
   opens_counts : (f : Form) (r : Result Opened Fault) → Keeps f r → Tally (message_readings f (behind_fields l r) ls) (came S (opens_to f l r) (λ σ. within S e σ ls))
   opens_counts f (Err x) keeps = tally_refused (message_readings f [] ls) x.refusal x.place
   opens_counts f (Ok o) keeps =
@@ -332,22 +332,22 @@ module _ (S : Setting) (e : ℕ) (l : Piece) (ls : List Piece) (hs : All NoOpeni
   kind_counts Dotted h = absurd (true≢false (sym h))
   kind_counts Other h = absurd (true≢false (sym h))
 
-stretch_counts : (S : Setting) (e : ℕ) (s : Stretch) → is_opening (kind_of s.0.1) ≡ true → All NoOpening s.1 → Tally (stretch_readings S s) (stretch S e s)
+stretch_counts : (S : Setting) (e : ℕ) (s : Stretch) → is_opening (kind_of s.0.1) ≡ true → AllByRecursion NoOpening s.1 → Tally (stretch_readings S s) (stretch S e s)
 stretch_counts S e s h hs = kind_counts S e s.0 s.1 hs (kind_of s.0.1) h
 
 -- the stretches of a text
 abbrev WellCut : Stretch → Type 0
-WellCut s = (is_opening (kind_of s.0.1) ≡ true) × All NoOpening s.1
+WellCut s = (is_opening (kind_of s.0.1) ≡ true) × AllByRecursion NoOpening s.1
 
-cut_one : (l : Piece) (b : Bool) (c : List Piece × List Stretch) → is_opening (kind_of l.1) ≡ b → All NoOpening c.0 → All WellCut c.1 → All WellCut (on_front b l c).1
+cut_one : (l : Piece) (b : Bool) (c : List Piece × List Stretch) → is_opening (kind_of l.1) ≡ b → AllByRecursion NoOpening c.0 → AllByRecursion WellCut c.1 → AllByRecursion WellCut (on_front b l c).1
 cut_one l true c e h w = ((e, h), w)
 cut_one l false c e h w = w
 
-well_cut : (ls : List Piece) → All WellCut (cut ls).1
+well_cut : (ls : List Piece) → AllByRecursion WellCut (cut ls).1
 well_cut [] = tt
 well_cut (l ∷ ls) = cut_one l (is_opening (kind_of l.1)) (cut ls) refl (before ls) (well_cut ls)
 
-stretches_count : (S : Setting) (e : ℕ) (ss : List Stretch) → All WellCut ss → Tally (readings_of S ss) (stretches S e ss)
+stretches_count : (S : Setting) (e : ℕ) (ss : List Stretch) → AllByRecursion WellCut ss → Tally (readings_of S ss) (stretches S e ss)
 stretches_count S e [] w = no_events
 stretches_count S e (s ∷ ss) w =
     tally_append (stretch_readings S s) (readings_of S ss) (stretch S (end_of e ss) s) (stretches S e ss) (stretch_counts S (end_of e ss) s w.0.0 w.0.1) (stretches_count S e ss w.1)

@@ -1,6 +1,6 @@
 -- The items of a table's header, read again on each body line: a body line is never refused for their sake.
 use Rattle.std.specs.Prelude.{◌≡◌, ℕ, ◌≤◌, Bool, ◌⊎◌, List, [], ◌∷◌, ◌++◌, is_some}
-use Rattle.std.specs.List.{AllByRecursion as All}
+use Rattle.std.specs.List.{AllByRecursion}
 use Rattle.calendar.specs.declared.date.Date.{Date}
 use Rattle.daylight.specs.declared.zone.Zone.{Zone}
 use Rattle.merging.specs.Merging.{filled, from_header}
@@ -33,7 +33,7 @@ pub record HeadersHold : Type 0 where
       → HeaderRead S m t hs → refusals (follow S m p (own_items B qs) (λ _. [])) ≡ [] → HeaderRead S m t (hs ++ qs)
   -- and the items of a body line, merged with those of a header that was read, are refused only where one of the line's own stands
   pub line : (S : Setting) (m : Common) (t : Standing) (hs ls : List Piece) (name : List ℕ)
-      → HeaderRead S m t hs → All (λ f. StandsAt ls f.place) (refusals (follow S (of_station m name) (fresh t) (from_header (filled hs) ls) (λ _. [])))
+      → HeaderRead S m t hs → AllByRecursion (λ f. StandsAt ls f.place) (refusals (follow S (of_station m name) (fresh t) (from_header (filled hs) ls) (λ _. [])))
   -- no fault of a body line stands before the line
   pub body : (S : Setting) (m : Common) (t : Standing) (hs : List Piece) (l : Piece)
-      → HeaderRead S m t hs → All (λ f. l.0 ≤ f.place) (refusals (body_events S m t hs l))
+      → HeaderRead S m t hs → AllByRecursion (λ f. l.0 ≤ f.place) (refusals (body_events S m t hs l))

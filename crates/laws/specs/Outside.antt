@@ -1,6 +1,6 @@
 -- Lines that add nothing to a text.
 use Rattle.std.specs.Prelude.{◌≡◌, ℕ, false, List, [], ◌∷◌, ◌++◌, length, ◌≢◌}
-use Rattle.std.specs.List.{AllByRecursion as All}
+use Rattle.std.specs.List.{AllByRecursion}
 use Rattle.reader.specs.Kinds.{kind_of, is_continuation}
 use Rattle.reader.specs.Lines.{Piece, lines}
 use Rattle.events.specs.Events.{Event}
@@ -21,14 +21,14 @@ alone S σ l = came S (next S σ l) (λ _. [])
 
 pub record LinesOutside : Type 0 where
   -- outside messages
-  pub between : (S : Setting) (e : ℕ) (ls : List Piece) → All NoOpening ls → All NoContinuation ls → within S e outside ls ≡ []
+  pub between : (S : Setting) (e : ℕ) (ls : List Piece) → AllByRecursion NoOpening ls → AllByRecursion NoContinuation ls → within S e outside ls ≡ []
   -- where the next opening is looked for, of whatever kind they are
-  pub skipped : (S : Setting) (e : ℕ) (ls : List Piece) → All NoOpening ls → within S e skipping ls ≡ []
+  pub skipped : (S : Setting) (e : ℕ) (ls : List Piece) → AllByRecursion NoOpening ls → within S e skipping ls ≡ []
   -- behind a line that is refused, up to the next opening
   pub behind : (S : Setting) (e : ℕ) (σ : Stage) (l : Piece) (ls : List Piece) → (refusals (alone S σ l) ≢ []) → within S e σ (l ∷ ls) ≡ alone S σ l
   -- in front of any text
-  pub front : (S : Setting) (e : ℕ) (ls more : List Piece) → All NoOpening ls → All NoContinuation ls → to_come S e outside (ls ++ more) ≡ to_come S e outside more
+  pub front : (S : Setting) (e : ℕ) (ls more : List Piece) → AllByRecursion NoOpening ls → AllByRecursion NoContinuation ls → to_come S e outside (ls ++ more) ≡ to_come S e outside more
   -- a text comes to what its openings come to, if what stands before the first has no continuation
-  pub preface : (S : Setting) (text : List ℕ) → All NoContinuation (cut (lines text)).0 → events S text ≡ stretches S (length text) (cut (lines text)).1
+  pub preface : (S : Setting) (text : List ℕ) → AllByRecursion NoContinuation (cut (lines text)).0 → events S text ≡ stretches S (length text) (cut (lines text)).1
   -- a text with neither an opening nor a continuation comes to nothing
-  pub nothing : (S : Setting) (text : List ℕ) → All NoOpening (lines text) → All NoContinuation (lines text) → events S text ≡ []
+  pub nothing : (S : Setting) (text : List ℕ) → AllByRecursion NoOpening (lines text) → AllByRecursion NoContinuation (lines text) → events S text ≡ []

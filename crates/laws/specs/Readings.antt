@@ -1,6 +1,6 @@
 -- How many readings a text has, by its items as they are parted, and that each comes to a record.
 use Rattle.std.specs.Prelude.{◌≡◌, ℕ, ◌+◌, ◌-◌, ◌≤◌, Bool, true, false, cond, List, [], ◌∷◌, ◌++◌, length, drop, Ok, Err, Result}
-use Rattle.std.specs.List.{AllByRecursion as All}
+use Rattle.std.specs.List.{AllByRecursion}
 use Rattle.merging.specs.Headers.{header_items}
 use Rattle.items.specs.Items.{message_items, body_items, is_blank}
 use Rattle.merging.specs.Merging.{Sided, is_d, filled, from_header, own_items as line_items}
@@ -115,7 +115,7 @@ pub record RecordsAreReadings : Type 0 where
   -- the items of a body line, among those of its header
   pub line : (S : Setting) (m : Common) (t : Standing) (hs ls : List Piece) → is_table m.form ≡ true → Accounted S m t (from_header (filled hs) ls)
   -- an opening and its lines, of which nothing is refused
-  pub opening : (S : Setting) (e : ℕ) (s : Stretch) → is_opening (kind_of s.0.1) ≡ true → All NoOpening s.1 → refusals (stretch S e s) ≡ [] → length (records (stretch S e s)) ≡ stretch_readings S s
+  pub opening : (S : Setting) (e : ℕ) (s : Stretch) → is_opening (kind_of s.0.1) ≡ true → AllByRecursion NoOpening s.1 → refusals (stretch S e s) ≡ [] → length (records (stretch S e s)) ≡ stretch_readings S s
   -- a text of which nothing is refused
   pub whole : (S : Setting) (text : List ℕ) → refusals (events S text) ≡ [] → length (records (events S text)) ≡ readings_of S (cut (lines text)).1
   -- and no text has more records than readings

@@ -1,6 +1,6 @@
 -- The body lines of a table, each read by itself.
 use Rattle.std.specs.Prelude.{◌≡◌, ℕ, true, List, [], ◌∷◌, ◌++◌, ◌≢◌}
-use Rattle.std.specs.List.{flat_map, AllByRecursion as All}
+use Rattle.std.specs.List.{flat_map, AllByRecursion}
 use Rattle.reader.specs.Kinds.{kind_of}
 use Rattle.reader.specs.Lines.{Piece}
 use Rattle.reader.specs.declared.kind.LineKind.TheVariants.{End, Other}
@@ -25,7 +25,7 @@ Reads S m t hs l = Plain l × (refusals (body_events S m t hs l) ≡ [])
 pub record BodyLines : Type 0 where
   -- lines that are read come each to its own, and the table is then where it was before them
   pub each : (S : Setting) (e : ℕ) (m : Common) (t : Standing) (hs ls more : List Piece)
-      → All (Reads S m t hs) ls → within S e (body m t hs) (ls ++ more) ≡ flat_map (body_events S m t hs) ls ++ within S e (body m t hs) more
+      → AllByRecursion (Reads S m t hs) ls → within S e (body m t hs) (ls ++ more) ≡ flat_map (body_events S m t hs) ls ++ within S e (body m t hs) more
   -- a line that is refused comes to its own too, and is the last
   pub last : (S : Setting) (e : ℕ) (m : Common) (t : Standing) (hs : List Piece) (l : Piece) (ls : List Piece)
       → Plain l → (refusals (body_events S m t hs l) ≢ []) → within S e (body m t hs) (l ∷ ls) ≡ body_events S m t hs l
@@ -34,5 +34,5 @@ pub record BodyLines : Type 0 where
       → is_table m.form ≡ true → Plain l → within S e (header m t p n hs) (l ∷ ls) ≡ within S e (body m t hs) (l ∷ ls)
   -- so a table behind its header, up to its end, is its lines each by itself
   pub table : (S : Setting) (e : ℕ) (m : Common) (t : Standing) (p : Reached) (n : ℕ) (hs ls : List Piece) (l : Piece) (rest : List Piece)
-      → is_table m.form ≡ true → All (Reads S m t hs) ls → kind_of l.1 ≡ End
+      → is_table m.form ≡ true → AllByRecursion (Reads S m t hs) ls → kind_of l.1 ≡ End
       → within S e (header m t p n hs) (ls ++ l ∷ rest) ≡ flat_map (body_events S m t hs) ls ++ within S e outside rest

@@ -1,4 +1,6 @@
 // Laws over whole texts, apart from how a text is read.
+#![tactic(auto)]
+
 ghost use Rattle.laws.specs.Counts.{FaultsCounted};
 ghost use Rattle.laws.specs.Endings.{OneRefusal};
 ghost use Rattle.laws.specs.Headings.{HeadersHold};

@@ -3,7 +3,7 @@ use Rattle.std.proofs.Common.{◌≡◌, ℕ, zero, suc, ◌+◌, ◌*◌, ◌<�
 use mathlib.Core.HLevel.{Unit-prop, ×_prop, is_prop→PathP}
 use mathlib.Core.List.{is_set}
 use native.Mathlib.Nat.{ℕ_set}
-use Rattle.std.specs.List.{flat_map, AllByRecursion as All}
+use Rattle.std.specs.List.{flat_map, AllByRecursion}
 use Rattle.std.proofs.lemmas.List.{take_at, drop_at, drop-drop, length-append, take-append-drop}
 use Rattle.record.specs.Entries.{Entry}
 use Rattle.record.specs.Validity.{Valid}
@@ -14,7 +14,7 @@ use Rattle.line.specs.Laws.{OneReading}
 use Rattle.line.proofs.Apart.{tells_apart}
 use Rattle.line.proofs.Cut.{line_long}
 
-pub same_entries : (xs ys : List Entry) → All Valid xs → All Valid ys → length xs ≡ length ys → flat_map line xs ≡ flat_map line ys → xs ≡ ys
+pub same_entries : (xs ys : List Entry) → AllByRecursion Valid xs → AllByRecursion Valid ys → length xs ≡ length ys → flat_map line xs ≡ flat_map line ys → xs ≡ ys
 same_entries [] [] v w n e = refl
 same_entries [] (y ∷ ys) v w n e = absurd (omega arith)
 same_entries (x ∷ xs) [] v w n e = absurd (omega arith)
@@ -28,7 +28,7 @@ same_entries (x ∷ xs) (y ∷ ys) v w n e =
 pub one_reading : OneReading
 one_reading bytes count s t = same_entries s.entries t.entries s.valid t.valid (s.many ∙ sym t.many) (sym s.text ∙ t.text)
 
-all_prop : (xs : List Entry) → IsProp (All Valid xs)
+all_prop : (xs : List Entry) → IsProp (AllByRecursion Valid xs)
 all_prop [] = Unit-prop
 all_prop (x ∷ xs) = ×_prop (valid_prop x) (all_prop xs)
 
@@ -38,17 +38,17 @@ shown_prop bytes count s t =
     let same : s.entries ≡ t.entries = one_reading bytes count s t in
     λ i. record {
       entries = same i;
-      valid = is_prop→PathP (λ j. All Valid (same j)) (λ j. all_prop (same j)) s.valid t.valid i;
+      valid = is_prop→PathP (λ j. AllByRecursion Valid (same j)) (λ j. all_prop (same j)) s.valid t.valid i;
       many = is_prop→PathP (λ j. length (same j) ≡ count) (λ j. ℕ_set (length (same j)) count) s.many t.many i;
       text = is_prop→PathP (λ j. take (80 * count) bytes ≡ flat_map line (same j)) (λ j. is_set ℕ_set (take (80 * count) bytes) (flat_map line (same j))) s.text t.text i;
     }
 
-pub joined_long : (es : List Entry) → All Valid es → length (flat_map line es) ≡ 80 * length es
+pub joined_long : (es : List Entry) → AllByRecursion Valid es → length (flat_map line es) ≡ 80 * length es
 joined_long [] v = refl
 joined_long (e ∷ es) v = length-append (line e) (flat_map line es) ∙ omega (arith, line_long e v.0, joined_long es v.1)
 
 -- the line at a place
-pub line_at : (es : List Entry) (rest : List ℕ) (i : ℕ) (d : Entry) → All Valid es → i < length es → take 80 (drop (80 * i) (flat_map line es ++ rest)) ≡ line (get_or es i d)
+pub line_at : (es : List Entry) (rest : List ℕ) (i : ℕ) (d : Entry) → AllByRecursion Valid es → i < length es → take 80 (drop (80 * i) (flat_map line es ++ rest)) ≡ line (get_or es i d)
 line_at [] rest i d v h = absurd (omega arith)
 line_at (e ∷ es) rest zero d v h = ap (take 80) (append_assoc (line e) (flat_map line es) rest) ∙ take_at (line e) (flat_map line es ++ rest) 80 (line_long e v.0)
 line_at (e ∷ es) rest (suc i) d v h =

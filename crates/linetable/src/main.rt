@@ -1,4 +1,6 @@
 // Prints awkward lines with their kinds, continuation numbers, words and items, and merged body lines.
+#![tactic(auto)]
+
 use items::Items;
 use merging::{Header, Merged, Part};
 use printing::{show, show_piece, show_text};

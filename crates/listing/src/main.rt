@@ -1,4 +1,6 @@
 // Reads a current date and a text from standard input, decodes the text by the law rule, and prints the records and the faults.
+#![tactic(auto)]
+
 use anyhow::anyhow;
 use calendar::date::Date;
 use daylight::law_rule::LawRule;

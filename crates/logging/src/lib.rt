@@ -1,4 +1,6 @@
 // The items of a line, read one after the other, each record logged as it comes.
+#![tactic(auto)]
+
 ghost use Rattle.std.specs.Prelude.{◌≡◌};
 ghost use Rattle.events.specs.Passing.{Comes};
 ghost use Rattle.merging.specs.Merging.{sided, parts_ahead};

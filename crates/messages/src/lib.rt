@@ -1,3 +1,5 @@
 // What the items of a message do.
+#![tactic(auto)]
+
 pub mod message;
 pub mod turns;

@@ -1,4 +1,6 @@
 // The fields of an opening line, and the station of a body line.
+#![tactic(auto)]
+
 ghost use Rattle.std.specs.Prelude.{◌≡◌, ◌+◌, ◌^◌, ◌<◌, ◌≤◌, length, IfOk};
 ghost use Rattle.calendar.specs.Messages.{message_date};
 ghost use Rattle.messages.specs.Ways.{map_ok};

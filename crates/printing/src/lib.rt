@@ -1,4 +1,6 @@
 // Lines of a text with their kinds, continuation numbers, words and items, as they are printed.
+#![tactic(auto)]
+
 use items::{Items, next_word, split_item};
 use reader::{Form, Line, LineKind, Lines, continuation_of, is_readable, kind_of, letters_len};
 use std::io;

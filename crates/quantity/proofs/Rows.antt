@@ -1,6 +1,6 @@
 -- The table's bounds, by one test over all of its rows, and the turns of the search in it.
 use Rattle.std.proofs.Common.{◌≡◌, ℕ, ◌+◌, ◌*◌, ◌^◌, ◌<◌, Bool, true, false, ◌&&◌, eqb, ltb, List, [], ◌∷◌, length, get_or, drop, IfSome, Some, Option, sym, refl, ◌∙◌, arith}
-use Rattle.std.specs.List.{AllByRecursion as All}
+use Rattle.std.specs.List.{AllByRecursion}
 use Rattle.std.proofs.lemmas.Bool.{cond_both, cond-true, cond-false, and_parts, ltb-true}
 use Rattle.std.proofs.lemmas.List.{at_drop_more}
 use Rattle.std.proofs.lemmas.Bool.Decides.{nat_tests}
@@ -21,11 +21,11 @@ is_fair e t =
     let w = and_parts (ltb e.denominator (6 * 10 ^ 7)) _ q.1 in
     (ltb-true _ _ p.0, ltb-true _ _ q.0, ltb-true _ _ w.0, ltb-true _ _ w.1)
 
-all_fair : (es : List Element) → every es ≡ true → All Fair es
+all_fair : (es : List Element) → every es ≡ true → AllByRecursion Fair es
 all_fair [] t = tt
 all_fair (e ∷ es) t = let p = and_parts (fair e) (every es) t in (is_fair e p.0, all_fair es p.1)
 
-found_fair : (a b : ℕ) (es : List Element) → All Fair es → IfSome (lookup a b es) Fair
+found_fair : (a b : ℕ) (es : List Element) → AllByRecursion Fair es → IfSome (lookup a b es) Fair
 found_fair a b [] h = tt
 found_fair a b (e ∷ es) h = cond_both (eqb e.first a && eqb e.second b) _ _ (λ o. IfSome o Fair) (λ _. h.0) (λ _. found_fair a b es h.1)
 

@@ -1,10 +1,10 @@
 -- What the lines of a text are, as a relation: it does not say how they are found.
 use Rattle.std.specs.Prelude.{◌≡◌, ℕ, ◌+◌, ◌<◌, List, [], ◌∷◌, ◌++◌, map, length, ◌≢◌}
-use Rattle.std.specs.List.{AllByRecursion as All}
+use Rattle.std.specs.List.{AllByRecursion}
 use Rattle.reader.specs.Lines.{Piece, less_return, lines, shifted}
 
 abbrev pub NoFeed : List ℕ → Type 0
-NoFeed bs = All (λ b. b ≢ 10) bs
+NoFeed bs = AllByRecursion (λ b. b ≢ 10) bs
 
 -- `Cut p text ls`: ls are the lines of `text`, which begins at p
 pub data Cut : ℕ → List ℕ → List Piece → Type 0 where

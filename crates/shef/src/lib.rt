@@ -1,2 +1,4 @@
 // Decoding of SHEF texts into any sink.
+#![tactic(auto)]
+
 pub mod decode;

@@ -3,7 +3,7 @@ use Rattle.std.specs.Prelude.{◌≡◌, ℕ, ◌-◌, ◌*◌, ◌/◌, ◌≤�
 use Rattle.std.proofs.Common.{◌∙◌}
 use Rattle.std.proofs.Math.Nat.{le_refl, le_trans, mul-le-mul_left}
 use Rattle.std.proofs.Math.Logic.{∥∥₁_elim}
-use Rattle.std.specs.List.{AllByRecursion as All}
+use Rattle.std.specs.List.{AllByRecursion}
 use Rattle.record.specs.Entries.{Entry}
 use Rattle.record.specs.Validity.{Valid}
 use Rattle.line.specs.Shown.{Shown}
@@ -42,5 +42,5 @@ longer_ties = record {
   };
 }
 
-pub listing_valid : (l : Listing) → All Valid (listed l).entries
+pub listing_valid : (l : Listing) → AllByRecursion Valid (listed l).entries
 listing_valid l = (showing l).valid

@@ -2,7 +2,7 @@
 use Rattle.std.specs.Prelude.{◌≡◌, ℕ, ◌+◌, ◌-◌, ◌≤◌, List, [], ◌∷◌, map, length, drop, refl}
 use Rattle.std.proofs.Common.{sym, ap, ◌∙◌}
 use Rattle.std.proofs.Math.Nat.{le_refl, le_trans, add-sub_of_le}
-use Rattle.std.specs.List.{AllByRecursion as All}
+use Rattle.std.specs.List.{AllByRecursion}
 use Rattle.std.proofs.lemmas.List.{drop-drop}
 use Rattle.slots.specs.declared.list.Slots.{Slots}
 use Rattle.record.specs.declared.record.Record.{Record}
@@ -35,6 +35,6 @@ module _ {T : Type 0} where
     };
   }
 
-pub all_valid : (rs : List Record) → All Valid (map entry rs)
+pub all_valid : (rs : List Record) → AllByRecursion Valid (map entry rs)
 all_valid [] = tt
 all_valid (r ∷ rs) = (valid r, all_valid rs)

@@ -4,7 +4,7 @@ ghost use Rattle.record.specs.Entries.{Entry, entry as entry_of};
 ghost use Rattle.record.specs.Validity.{Valid};
 ghost use Rattle.sink.specs.Frames.{Ties};
 ghost use Rattle.sink.specs.Logs.{Log, put};
-ghost use Rattle.std.specs.List.{AllByRecursion as All};
+ghost use Rattle.std.specs.List.{AllByRecursion};
 
 use record::record::Record;
 use slots::list::Full;
@@ -14,7 +14,7 @@ pub trait Sink {
     ghost holds: { Self → Log Entry };
 
     // It holds only what records can say.
-    ghost valid: { (s : Self) → All Valid (holds s).entries };
+    ghost valid: { (s : Self) → AllByRecursion Valid (holds s).entries };
 
     // What it leaves alone.
     ghost frame: { Self → Self → Type 0 };

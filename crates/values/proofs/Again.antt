@@ -1,6 +1,6 @@
 -- What was written is read again.
 use Rattle.std.proofs.Common.{◌≡◌, ℕ, ◌-◌, ◌<◌, true, false, ◌&&◌, ◌||◌, eqb, List, [], ◌∷◌, ◌++◌, length, get_or, take, ℤ, Some, None, Ok, Option, refl, ap, ◌∙◌, subst, append-nil, arith, length-append}
-use Rattle.std.specs.List.{AllByRecursion as All}
+use Rattle.std.specs.List.{AllByRecursion}
 use Rattle.std.specs.Str.{bytes_eq}
 use Rattle.std.proofs.lemmas.List.{get_or_at, take_at}
 use Rattle.std.proofs.ByRecursion.{All-get_or}
@@ -16,7 +16,7 @@ use Rattle.values.specs.Writing.{figure}
 use Rattle.values.specs.Laws.{Held, ReadsBack, ReadsAlone}
 use Rattle.values.proofs.Back.{Mark, figure-marks, some-figure, stands_for, trimmed, small, known, amount-figure}
 
-front : (cs ys : List ℕ) → All Mark cs → 0 < length cs → Mark (get_or (cs ++ ys) 0 0)
+front : (cs ys : List ℕ) → AllByRecursion Mark cs → 0 < length cs → Mark (get_or (cs ++ ys) 0 0)
 front [] ys h some = absurd (omega arith)
 front (c ∷ cs) ys h some = h.0
 
@@ -59,7 +59,7 @@ reads_back e v q h big =
     ∙ ap (λ k. amount_read e English k (amount_of (number_of (f ++ q ∷ [])))) (qualifier_behind f q big) ∙ ap (λ l. amount_read e English q (amount_of l)) (number_before f q big)
     ∙ number_back e v q h
 
-no_capital : (xs : List ℕ) → All Mark xs → 0 < length xs → capital (last_of xs) ≡ false
+no_capital : (xs : List ℕ) → AllByRecursion Mark xs → 0 < length xs → capital (last_of xs) ≡ false
 no_capital xs h some =
     let m : Mark (last_of xs) = All-get_or Mark xs (length xs - 1) 0 (omega arith) h in
     grind (arith, nat_tests)

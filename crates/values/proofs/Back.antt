@@ -3,7 +3,7 @@ use Rattle.std.proofs.Common.{◌≡◌, ℕ, suc, ◌+◌, ◌-◌, ◌/◌, �
 use lib.Signed.{lt_z}
 use lib.ListN.{length-replicate}
 use Rattle.std.specs.Option.{option_map}
-use Rattle.std.specs.List.{AllByRecursion as All}
+use Rattle.std.specs.List.{AllByRecursion}
 use Rattle.std.proofs.ByRecursion.{All-append, All-weaker}
 use Rattle.std.proofs.lemmas.Bool.{cond-true, cond-false, lt-ltb, ltb-true, ne_eqb, and_parts}
 use Rattle.std.proofs.lemmas.Bool.Decides.{nat_tests}
@@ -27,12 +27,12 @@ Mark c = (44 < c) × (c < 58)
 digit_mark : (c : ℕ) → Digit c → Mark c
 digit_mark c h = (omega arith, h.1)
 
-size_marks : (n : ℕ) → All Mark (size_text n)
+size_marks : (n : ℕ) → AllByRecursion Mark (size_text n)
 size_marks n =
     All-append Mark (plain 8 (n / 10000)) (46 ∷ digits 4 (n % 10000)) (All-weaker Digit Mark digit_mark _ (plain_are 8 (n / 10000)))
     ((omega arith, omega arith), All-weaker Digit Mark digit_mark (digits 4 (n % 10000)) (digits_are 4 (n % 10000)))
 
-pub figure-marks : (z : ℤ) → All Mark (figure z)
+pub figure-marks : (z : ℤ) → AllByRecursion Mark (figure z)
 figure-marks (pos n) = size_marks n
 figure-marks (negsuc n) = ((omega arith, omega arith), size_marks (suc n))
 
@@ -48,7 +48,7 @@ size_back n h =
     ∙ ap (ten_thousandths 4 (Some m)) (numeral-digits 4 fs (digits_are 4 r) (omega arith) ∙ ap Some (digits_say 4 0 r (omega arith)))
     ∙ ap Some (omega arith)
 
-unsigned : (ds cs : List ℕ) → All Digit ds → 0 < length ds → amount_of (ds ++ cs) ≡ option_map pos (size_of (ds ++ cs))
+unsigned : (ds cs : List ℕ) → AllByRecursion Digit ds → 0 < length ds → amount_of (ds ++ cs) ≡ option_map pos (size_of (ds ++ cs))
 unsigned [] cs h l = absurd (omega arith)
 unsigned (d ∷ ds) cs h l = cond-false _ _ _ (ne_eqb d 45 (λ e. omega arith)) ∙ cond-false _ _ _ (ne_eqb d 43 (λ e. omega arith))
 
@@ -64,7 +64,7 @@ pub some-figure : (z : ℤ) → 0 < length (figure z)
 some-figure (pos n) = some_size n
 some-figure (negsuc n) = omega arith
 
-trim_start-marks : (xs : List ℕ) → All Mark xs → trim_start xs ≡ xs
+trim_start-marks : (xs : List ℕ) → AllByRecursion Mark xs → trim_start xs ≡ xs
 trim_start-marks [] h = refl
 trim_start-marks (c ∷ cs) h = cond-false (eqb c 32) _ (c ∷ cs) (ne_eqb c 32 (λ e. omega arith))
 

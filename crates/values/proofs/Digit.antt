@@ -1,6 +1,6 @@
 -- Digits, and what trimming and reading do to them.
 use Rattle.std.proofs.Common.{◌≡◌, ℕ, zero, suc, ◌+◌, ◌-◌, ◌*◌, ◌/◌, ◌%◌, ◌^◌, ◌<◌, ◌≤◌, true, ◌&&◌, ltb, leb, List, [], ◌∷◌, ◌++◌, length, replicate, Some, sym, refl, ap, ◌∙◌, mul_assoc, pow-suc, arith, length-append}
-use Rattle.std.specs.List.{AllByRecursion as All}
+use Rattle.std.specs.List.{AllByRecursion}
 use Rattle.std.proofs.ByRecursion.{All-push}
 use Rattle.std.proofs.lemmas.Bool.{cond-true, cond-false, cond_both, ltb-true, ne_eqb}
 use Rattle.std.proofs.lemmas.Bool.Decides.{nat_tests}
@@ -15,7 +15,7 @@ pub said-push : (n : ℕ) (ds : List ℕ) (c : ℕ) → said n (ds ++ (c ∷ [])
 said-push n [] c = refl
 said-push n (d ∷ ds) c = said-push (n * 10 + (d - 48)) ds c
 
-pub digits_are : (k n : ℕ) → All Digit (digits k n)
+pub digits_are : (k n : ℕ) → AllByRecursion Digit (digits k n)
 digits_are zero n = tt
 digits_are (suc k) n = All-push Digit (digits k (n / 10)) (48 + n % 10) (digits_are k (n / 10)) (omega arith, omega arith)
 
@@ -30,10 +30,10 @@ digits_say (suc k) m n h =
     let below : n / 10 < 10 ^ k = omega arith in
     said-push m (digits k (n / 10)) (48 + n % 10) ∙ omega (arith, digits_say k m (n / 10) below, sym (mul_assoc m (10 ^ k) 10), ap (λ x. m * x) p)
 
-pub plain_are : (k n : ℕ) → All Digit (plain k n)
+pub plain_are : (k n : ℕ) → AllByRecursion Digit (plain k n)
 plain_are zero n = tt
 plain_are (suc k) n =
-    cond_both (ltb n 10) _ _ (All Digit) (λ e. ((omega arith, omega (arith, ltb-true n 10 e)), tt))
+    cond_both (ltb n 10) _ _ (AllByRecursion Digit) (λ e. ((omega arith, omega (arith, ltb-true n 10 e)), tt))
     (λ e. All-push Digit (plain k (n / 10)) (48 + n % 10) (plain_are k (n / 10)) (omega arith, omega arith))
 
 pub plain_say : (k n : ℕ) → n < 10 ^ k → said 0 (plain k n) ≡ n
@@ -55,19 +55,19 @@ pub trim_start-pad : (n : ℕ) (xs : List ℕ) → trim_start (replicate n 32 ++
 trim_start-pad zero xs = refl
 trim_start-pad (suc n) xs = trim_start-pad n xs
 
-pub all_digits_lem : (ds : List ℕ) → All Digit ds → all_digits ds ≡ true
+pub all_digits_lem : (ds : List ℕ) → AllByRecursion Digit ds → all_digits ds ≡ true
 all_digits_lem [] h = refl
 all_digits_lem (d ∷ ds) h = let t : digit d ≡ true = grind (arith, nat_tests) in ap (λ b. b && all_digits ds) t ∙ all_digits_lem ds h.1
 
-pub numeral-digits : (most : ℕ) (ds : List ℕ) → All Digit ds → length ds ≤ most → numeral most ds ≡ Some (said 0 ds)
+pub numeral-digits : (most : ℕ) (ds : List ℕ) → AllByRecursion Digit ds → length ds ≤ most → numeral most ds ≡ Some (said 0 ds)
 numeral-digits most ds h l =
     let b : leb (length ds) most ≡ true = grind (arith, nat_tests) in
     cond-true _ _ _ (ap (λ t. t && leb (length ds) most) (all_digits_lem ds h) ∙ b)
 
-pub before_digits : (ds cs : List ℕ) → All Digit ds → before_point (ds ++ 46 ∷ cs) ≡ ds
+pub before_digits : (ds cs : List ℕ) → AllByRecursion Digit ds → before_point (ds ++ 46 ∷ cs) ≡ ds
 before_digits [] cs h = refl
 before_digits (d ∷ ds) cs h = cond-false _ _ _ (ne_eqb d 46 (λ e. omega arith)) ∙ ap (λ l. d ∷ l) (before_digits ds cs h.1)
 
-pub behind-digits : (ds cs : List ℕ) → All Digit ds → behind_point (ds ++ 46 ∷ cs) ≡ cs
+pub behind-digits : (ds cs : List ℕ) → AllByRecursion Digit ds → behind_point (ds ++ 46 ∷ cs) ≡ cs
 behind-digits [] cs h = refl
 behind-digits (d ∷ ds) cs h = cond-false _ _ _ (ne_eqb d 46 (λ e. omega arith)) ∙ behind-digits ds cs h.1
