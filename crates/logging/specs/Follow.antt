@@ -1,5 +1,5 @@
 -- What the items of a message come to, one after the other.
-use Rattle.std.specs.Prelude.{ℕ, List, [], ◌∷◌, Some, None, Ok, Err, Option, Result}
+use Rattle.std.specs.Prelude.{ℕ, List, [], ◌∷◌, Some, None, Ok, Err, Option}
 use Rattle.merging.specs.Merging.{Sided, of_header, of_line}
 use Rattle.reader.specs.Lines.{Piece}
 use Rattle.reader.specs.declared.kind.Form.{Form}

@@ -1,5 +1,5 @@
 -- What a value gives, and what an item of each form comes to.
-use Rattle.std.proofs.Common.{◌≡◌, ℕ, ◌+◌, ◌-◌, ◌^◌, min, Bool, true, false, List, Some, None, Ok, Err, Option, sym, ap, ◌∙◌}
+use Rattle.std.proofs.Common.{◌≡◌, ℕ, ◌+◌, ◌-◌, ◌^◌, min, Bool, false, List, Some, None, Ok, Err, Option, sym, ap, ◌∙◌}
 use Rattle.std.specs.Option.{ok_or}
 use Rattle.calendar.specs.declared.date.Date.{Date}
 use Rattle.terms.specs.Standing.{Standing}

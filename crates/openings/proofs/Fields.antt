@@ -1,5 +1,5 @@
 -- The fields of an opening line.
-use Rattle.std.proofs.Common.{◌≡◌, ℕ, ◌+◌, Bool, List, length, drop, Some, None, Ok, Err, Option, Result, sym, refl, ap, ◌∙◌, subst}
+use Rattle.std.proofs.Common.{◌≡◌, ℕ, ◌+◌, Bool, List, length, drop, Some, None, Ok, Err, Option, Result, ap, ◌∙◌}
 use Rattle.std.specs.Option.{option_map, ok_or}
 use Rattle.calendar.specs.declared.date.Date.{Date as Day}
 use Rattle.calendar.specs.Messages.{message_date}

@@ -1,5 +1,5 @@
 -- What is refused in an opening or a station is of the message layer.
-use Rattle.std.proofs.Common.{◌≡◌, ℕ, ◌+◌, Bool, List, length, drop, Some, None, Ok, Err, Option, Result, sym, refl, ap, ◌∙◌, subst, arith}
+use Rattle.std.proofs.Common.{◌≡◌, ℕ, ◌+◌, Bool, List, drop, Some, None, Ok, Err, Option, Result, sym, refl, subst}
 use Rattle.std.specs.Option.{option_map, ok_or}
 use Rattle.calendar.specs.declared.date.Date.{Date as Day}
 use Rattle.calendar.specs.Messages.{message_date}
@@ -14,7 +14,7 @@ use Rattle.refusals.specs.declared.MessageRefusal.TheVariants as why
 use Rattle.refusals.specs.declared.Refusal.TheVariants.{Message}
 use Rattle.events.specs.Events.{fault}
 use Rattle.messages.specs.Ways.{then_ok}
-use Rattle.openings.specs.Openings.{placed_word, word_at, field, zone_field, Opened, opens_with, opened}
+use Rattle.openings.specs.Openings.{placed_word, word_at, field, zone_field, opens_with, opened}
 
 -- a fault of the message layer
 abbrev pub Says : Fault → Type 0

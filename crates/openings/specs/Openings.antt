@@ -1,5 +1,5 @@
 -- The fields of an opening line: a station (in .B the source), a date, and perhaps a zone; and the station of a body line.
-use Rattle.std.specs.Prelude.{ℕ, ◌+◌, Bool, List, [], ◌∷◌, length, drop, Some, None, Ok, Err, Option, Result}
+use Rattle.std.specs.Prelude.{ℕ, ◌+◌, Bool, List, length, drop, Some, None, Ok, Err, Option, Result}
 use Rattle.std.specs.Option.{option_map, ok_or}
 use Rattle.calendar.specs.declared.date.Date.{Date as Day}
 use Rattle.calendar.specs.Messages.{message_date}

@@ -1,5 +1,5 @@
 -- A text, line after line.
-use Rattle.std.proofs.Common.{◌≡◌, ℕ, zero, suc, ◌+◌, ◌-◌, ◌^◌, ◌≤◌, min, Bool, true, false, cond, List, [], ◌∷◌, ◌++◌, length, take, sym, refl, ap, ◌∙◌, subst, ⊎_elim, append_assoc, append-nil, arith, length-append}
+use Rattle.std.proofs.Common.{◌≡◌, ℕ, ◌+◌, ◌-◌, true, false, cond, List, [], ◌∷◌, ◌++◌, length, take, sym, refl, ap, ◌∙◌, subst, ⊎_elim, append_assoc, arith, length-append}
 use Rattle.std.proofs.lemmas.Bool.{cond-true, cond-false, cases_Bool, true≢false}
 use Rattle.record.specs.Entries.{Entry}
 use Rattle.reader.specs.Kinds.{kind_of}
@@ -10,17 +10,17 @@ use Rattle.refusals.specs.declared.Fault.{Fault}
 use Rattle.refusals.specs.declared.MessageRefusal.TheVariants as why
 use Rattle.refusals.specs.declared.Refusal.{Refusal}
 use Rattle.refusals.specs.declared.Refusal.TheVariants.{CurrentDate, Message, Item, NoRoom}
-use Rattle.sink.specs.Logs.{Log, log, put, put_all}
+use Rattle.sink.specs.Logs.{Log, put, put_all}
 use Rattle.sink.proofs.Puts.{takes_in}
-use Rattle.events.specs.Events.{Event, fault, logged, refused, records, met, verdict}
-use Rattle.events.specs.Passing.{Passed, Stopped, StopsAt, Full, logged_all, entries_of, Comes}
+use Rattle.events.specs.Events.{Event, fault, logged, refused, records}
+use Rattle.events.specs.Passing.{Passed, Stopped, StopsAt, Full, logged_all}
 use Rattle.events.specs.Room.{refusals}
 use Rattle.events.proofs.Going.{Going, Done, begun, renamed, passed, refusing, ended, filled}
 use Rattle.messages.specs.Models.{Setting}
 use Rattle.shef.specs.Answers.{Read}
-use Rattle.shef.specs.Decodes.{counted, delivered, ends_here}
+use Rattle.shef.specs.Decodes.{counted, ends_here}
 use Rattle.shef.specs.declared.decode.Answer.{Answer}
-use Rattle.stages.specs.Stages.{Stage, outside, skipping, header, body, Moved, by_kind, next, came, closing, within, is_table}
+use Rattle.stages.specs.Stages.{Stage, outside, skipping, header, body, by_kind, next, came, closing, within, is_table}
 use Rattle.shef.specs.Texts.{is_opening, Stretch, on_front, cut, end_of, stretches, to_come}
 
 -- an opening acts alike in every stage

@@ -1,5 +1,5 @@
 -- What a reading of a text leaves and answers.
-use Rattle.std.specs.Prelude.{◌≡◌, ℕ, List, length}
+use Rattle.std.specs.Prelude.{◌≡◌, List, length}
 use Rattle.record.specs.Entries.{Entry}
 use Rattle.refusals.specs.declared.Fault.{Fault}
 use Rattle.sink.specs.Logs.{Log, put_all}

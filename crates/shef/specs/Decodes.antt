@@ -1,11 +1,10 @@
 -- What a decode comes to.
-use Rattle.std.specs.Prelude.{ℕ, ◌+◌, ◌-◌, ◌^◌, min, Bool, cond, List, [], ◌∷◌, length, take}
+use Rattle.std.specs.Prelude.{ℕ, ◌-◌, ◌^◌, min, cond, List, [], ◌∷◌, length, take}
 use Rattle.calendar.specs.Dates.{message_day}
 use Rattle.reader.specs.Kinds.{kind_of}
 use Rattle.reader.specs.Lines.{Piece}
 use Rattle.refusals.specs.declared.Refusal.TheVariants.{CurrentDate}
-use Rattle.events.specs.Events.{Event, refused, records, met, verdict}
-use Rattle.events.specs.Room.{refusals}
+use Rattle.events.specs.Events.{Event, refused, records, verdict}
 use Rattle.messages.specs.Models.{Setting}
 use Rattle.stages.specs.Stages.{Stage, closing}
 use Rattle.shef.specs.Texts.{is_opening, events}

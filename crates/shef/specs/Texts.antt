@@ -1,5 +1,5 @@
 -- What a text comes to: what stands before its first opening, and then one stretch of lines for each opening, each read by itself.
-use Rattle.std.specs.Prelude.{ℕ, Bool, true, false, cond, List, [], ◌∷◌, ◌++◌, length}
+use Rattle.std.specs.Prelude.{ℕ, Bool, true, false, List, [], ◌∷◌, ◌++◌, length}
 use Rattle.reader.specs.Kinds.{kind_of}
 use Rattle.reader.specs.Lines.{Piece, lines}
 use Rattle.reader.specs.declared.kind.LineKind.{LineKind}

@@ -1,10 +1,10 @@
 -- What each kind of line does in each stage of reading.
-use Rattle.std.specs.Prelude.{ℕ, zero, suc, ◌+◌, Bool, true, false, cond, ◌&&◌, List, [], ◌∷◌, ◌++◌, length, drop, Some, None, Ok, Err, Option, Result, ◌==◌}
+use Rattle.std.specs.Prelude.{ℕ, ◌+◌, Bool, true, false, cond, ◌&&◌, List, [], ◌∷◌, ◌++◌, drop, Some, None, Ok, Err, Option, Result, ◌==◌}
 use Rattle.merging.specs.Headers.{continued_items}
 use Rattle.items.specs.Items.{message_items, body_items, is_blank}
 use Rattle.merging.specs.Merging.{Sided, filled, from_header}
 use Rattle.reader.specs.Kinds.{kind_of, continuation_of, readable}
-use Rattle.reader.specs.Lines.{Piece, lines}
+use Rattle.reader.specs.Lines.{Piece}
 use Rattle.reader.specs.declared.kind.Continuation.{Continuation as Number}
 use Rattle.reader.specs.declared.kind.Form.{Form}
 use Rattle.reader.specs.declared.kind.Form.TheVariants.{A, B, E}
@@ -15,7 +15,7 @@ use Rattle.refusals.specs.declared.Fault.{Fault}
 use Rattle.refusals.specs.declared.MessageRefusal.TheVariants as why
 use Rattle.refusals.specs.declared.Refusal.TheVariants.{Message}
 use Rattle.terms.specs.Standing.{Standing}
-use Rattle.events.specs.Events.{Event, fault, logged, refused}
+use Rattle.events.specs.Events.{Event, fault, refused}
 use Rattle.messages.specs.Models.{Setting, Common, Reached, fresh}
 use Rattle.logging.specs.Follow.{follow, own_items}
 use Rattle.openings.specs.Openings.{Opened, field, opened}

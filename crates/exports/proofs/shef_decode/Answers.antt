@@ -1,4 +1,4 @@
-use Rattle.std.proofs.Common.{◌≡◌, ℕ, length, sym, ap, ◌∙◌, rules}
+use Rattle.std.proofs.Common.{length, sym, ap, ◌∙◌, rules}
 use Rattle.events.specs.Events.{met, records}
 use Rattle.shef.specs.Decodes.{answer_of, counted, decoded, delivered}
 use Rattle.exports.specs.Lawful.{lawful}

@@ -1,7 +1,6 @@
-use Rattle.std.proofs.Common.{◌≡◌, refl, ap}
+use Rattle.std.proofs.Common.{ap}
 use Rattle.std.specs.Option.{option_map}
 use Rattle.record.specs.Entries.{entry}
-use Rattle.events.proofs.Passes.{nothing, kept}
 use Rattle.logging.proofs.Following.{logged_one, no_room}
 use Rattle.logging.proofs.log.Goals as goal
 

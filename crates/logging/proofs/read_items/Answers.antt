@@ -1,11 +1,11 @@
-use Rattle.std.proofs.Common.{◌≡◌, ◌∷◌, sym, ap, ◌∙◌, subst}
+use Rattle.std.proofs.Common.{◌∷◌, sym, ap, ◌∙◌}
 use Rattle.std.proofs.lemmas.Result.{err_from_is_err_and}
 use Rattle.events.proofs.Passes.{comes_err}
 use Rattle.merging.specs.Merging.{sided}
-use Rattle.items.specs.Steps.{item_piece, items_ahead}
+use Rattle.items.specs.Steps.{items_ahead}
 use Rattle.messages.specs.Models.{setting, common, reached}
-use Rattle.logging.specs.Follow.{own_item, own_items}
-use Rattle.logging.proofs.Following.{read_more, read_stopped, read_all}
+use Rattle.logging.specs.Follow.{own_items}
+use Rattle.logging.proofs.Following.{read_more, read_stopped}
 use Rattle.logging.proofs.read_items.Goals as goal
 
 pub returns-in_err-progress : goal.returns-in_err-progress

@@ -2,7 +2,7 @@ use Rattle.std.proofs.lemmas.Result.{err_from_is_err_and}
 use Rattle.events.proofs.Passes.{comes_err}
 use Rattle.merging.specs.Merging.{sided, parts_ahead}
 use Rattle.messages.specs.Models.{setting, common, reached}
-use Rattle.logging.proofs.Following.{read_more, read_stopped, read_all}
+use Rattle.logging.proofs.Following.{read_more, read_stopped}
 use Rattle.logging.proofs.read_line.Goals as goal
 
 pub returns-in_err-progress : goal.returns-in_err-progress

@@ -1,11 +1,7 @@
-use Rattle.std.proofs.Common.{ℕ, ◌≤◌, length, IfOk, Err, sym, ap, ◌∙◌, subst}
+use Rattle.std.proofs.Common.{◌≤◌, length, IfOk, Err, sym, ap, ◌∙◌, subst}
 use Rattle.std.proofs.lemmas.Result.{err_from_is_err_and}
 use Rattle.calendar.specs.Messages.{message_date}
-use Rattle.messages.specs.Ways.{map_ok}
 use Rattle.reader.specs.Lines.{line_piece}
-use Rattle.record.specs.Entries.{name as name_of}
-use Rattle.record.specs.Stations.{station_of}
-use Rattle.record.specs.declared.station.Station.{Station}
 use Rattle.refusals.specs.declared.MessageRefusal.TheVariants as why
 use Rattle.openings.specs.Found.{found}
 use Rattle.openings.proofs.Fields.{field-missing, field_bad, field_good}

@@ -1,6 +1,5 @@
 use Rattle.std.proofs.Common.{ℕ, ◌≤◌, length, IfOk, Err, sym, ap, ◌∙◌, subst}
 use Rattle.std.proofs.lemmas.Result.{err_from_is_err_and}
-use Rattle.calendar.specs.Messages.{message_date}
 use Rattle.messages.specs.Ways.{map_ok}
 use Rattle.reader.specs.Lines.{line_piece}
 use Rattle.record.specs.Entries.{name as name_of}

@@ -1,11 +1,11 @@
-use Rattle.std.proofs.Common.{◌≡◌, false, List, [], ◌∷◌, length, take, sym, refl, ap, ◌∙◌}
+use Rattle.std.proofs.Common.{◌≡◌, false, [], ◌∷◌, length, sym, ap, ◌∙◌}
 use lib.Seq.{take-nil}
 use Rattle.calendar.specs.Dates.{message_day}
 use Rattle.std.proofs.lemmas.Bool.{cond-false}
 use Rattle.record.specs.Entries.{Entry}
 use Rattle.refusals.specs.declared.Refusal.TheVariants.{CurrentDate}
 use Rattle.sink.specs.Logs.{of_slots, put_all}
-use Rattle.events.specs.Events.{Event, refused, records, met}
+use Rattle.events.specs.Events.{refused, records, met}
 use Rattle.messages.specs.Models.{setting}
 use Rattle.shef.specs.Decodes.{counted, decoded, delivered}
 use Rattle.shef.proofs.decode.decode.Goals as goal

@@ -1,4 +1,4 @@
-use Rattle.std.proofs.Common.{◌≡◌, List, ◌∷◌, length, sym, refl, ap, ◌∙◌, subst, arith}
+use Rattle.std.proofs.Common.{List, length, sym, refl, ap, ◌∙◌, subst, arith}
 use Rattle.messages.specs.Models.{setting}
 use Rattle.reader.specs.Lines.{Piece, line_piece, lines_ahead, lines}
 use Rattle.sink.specs.Tables.{grown_ties}

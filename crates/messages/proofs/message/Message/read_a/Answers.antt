@@ -1,4 +1,4 @@
-use Rattle.std.proofs.Common.{◌≡◌, Ok, ap, ◌∙◌}
+use Rattle.std.proofs.Common.{Ok, ap, ◌∙◌}
 use Rattle.messages.specs.Models.{turned}
 use Rattle.messages.specs.Turns.{item_of_a}
 use Rattle.messages.proofs.Ways.{exit, way_1, way_2}

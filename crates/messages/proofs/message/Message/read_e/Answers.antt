@@ -1,4 +1,4 @@
-use Rattle.std.proofs.Common.{◌≡◌, Ok, ap, ◌∙◌}
+use Rattle.std.proofs.Common.{Ok, ap, ◌∙◌}
 use Rattle.std.specs.Option.{option_map}
 use Rattle.messages.specs.Models.{setting, common, reached, turned, signs_of}
 use Rattle.messages.specs.Turns.{d_item, item_of_e}

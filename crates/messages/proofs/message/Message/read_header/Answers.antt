@@ -1,4 +1,4 @@
-use Rattle.std.proofs.Common.{◌≡◌, Ok, ap, ◌∙◌}
+use Rattle.std.proofs.Common.{Ok, ap, ◌∙◌}
 use Rattle.messages.specs.Models.{turned}
 use Rattle.messages.specs.Turns.{item_of_header}
 use Rattle.messages.proofs.Ways.{exit, stops, goes_on, way_1, way_2, way_3}

@@ -1,4 +1,4 @@
-use Rattle.std.proofs.Common.{◌≡◌, Ok, sym, refl, ap, ◌∙◌}
+use Rattle.std.proofs.Common.{Ok, sym, refl, ap, ◌∙◌}
 use Rattle.messages.specs.Models.{reached, turned}
 use Rattle.messages.specs.Turns.{step_of_e}
 use Rattle.messages.proofs.Ways.{exit, stops, goes_on, way_1, way_2, way_3}

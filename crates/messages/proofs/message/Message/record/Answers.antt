@@ -1,4 +1,4 @@
-use Rattle.std.proofs.Common.{◌≡◌, ◌∙◌}
+use Rattle.std.proofs.Common.{◌∙◌}
 use Rattle.record.specs.Entries.{entry}
 use Rattle.messages.proofs.Ways.{exit}
 use Rattle.messages.proofs.Items.{no_duration, no_value, no_time, gives_record}

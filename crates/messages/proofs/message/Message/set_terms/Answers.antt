@@ -1,4 +1,4 @@
-use Rattle.std.proofs.Common.{◌≡◌, Ok, ap, ◌∙◌}
+use Rattle.std.proofs.Common.{Ok, ap, ◌∙◌}
 use Rattle.messages.specs.Turns.{d_item}
 use Rattle.messages.proofs.Ways.{has, lacks}
 use Rattle.messages.proofs.message.Message.set_terms.Goals as goal
