@@ -19,6 +19,19 @@ HERE = os.path.dirname(os.path.realpath(__file__))
 TOKEN = re.compile(r"(?<![\w'\-])[A-Za-z_][\w'*+\-]*")
 LETTER = re.compile(r"[a-z0-9'][A-Z]")
 FIELDS = set()
+# names given at imports, and fields that have no dash
+ALIASES = dict(w.split() for w in """
+theUnit the_unit
+theUnits the_units
+theSaving the_saving
+theStage the_stage
+theOpening the_opening
+lineItems line_items
+deliveredOf delivered_of
+nearestTo nearest_to
+numeralOf numeral_of
+dayFor day_for
+""".strip().splitlines())
 STD = set("length take drop append push map get_or slice_index set reverse sum pad trim zip cond and or not true false some none ok err".split())
 
 
@@ -145,9 +158,19 @@ def turn_page(text, turned):
     return re.sub(r"`[^`\n]+`", lambda m: TOKEN.sub(lambda w: snake(w.group(0)) if w.group(0)[0].islower() else w.group(0), turn_words(m.group(0), lone)), text)
 
 
+def own_name(text):
+    """std's relation over all elements goes by its own name, and the comments say a .B message again."""
+    if "AllByRecursion as All" in text:
+        text = text.replace("AllByRecursion as All", "AllByRecursion")
+        text = "".join(l if re.match(r"\s*(ghost )?use |\s*(--|//)", l) else re.sub(r"(?<![\w'\-.])All(?![\w'\-])", "AllByRecursion", l) for l in text.splitlines(keepends=True))
+    return re.sub(r"\b(an?)\.([ABE]) ", r"\1 .\2 ", text)
+
+
 def rewrite(path, turn, turned):
     old = open(path, encoding="utf-8").read()
     new = turn(old, turned)
+    if path.endswith((".antt", ".rt")):
+        new = own_name(TOKEN.sub(lambda m: ALIASES.get(m.group(0), m.group(0)), new))
     if new != old:
         open(path, "w", encoding="utf-8").write(new)
         return 1
