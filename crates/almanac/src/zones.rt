@@ -44,14 +44,10 @@ const READINGS: [Case; 26] = [
     ("Z", 2023, 2, 29, 0),
 ];
 
-fn lines(rt: &HostRuntime, cases: &[Case]) -> io::Result<()> {
-    for &(word, year, month, day, second) in cases {
+pub fn all(rt: &HostRuntime) -> io::Result<()> {
+    for (word, year, month, day, second) in READINGS {
         print!(rt; "{word} {year} {month} {day} {second}: ")?;
         show::reading(rt, utc(word, (Date { year, month, day }, second)))?;
     }
     Ok(())
-}
-
-pub fn all(rt: &HostRuntime) -> io::Result<()> {
-    lines(rt, &READINGS)
 }

@@ -112,3 +112,7 @@ year_more y = rw add-one refl
 pub month_first : (y : ℕ) → months_before y 1 ≡ 0
 unfolding months_before month_length
 month_first y = refl
+
+pub month_none : (y : ℕ) → months_before y 0 ≡ 0
+unfolding months_before
+month_none y = refl

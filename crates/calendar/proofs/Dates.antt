@@ -1,6 +1,6 @@
 -- Real dates, the order of their numbers and the day after.
 use Rattle.std.proofs.Common.{◌≡◌, ℕ, zero, suc, ◌+◌, ◌-◌, ◌<◌, ◌≤◌, true, ◌&&◌, ltb, leb, ◌⊎◌, Some, None, sym, refl, ap, ◌∙◌, subst, inl, inr, add-one, arith}
-use Rattle.std.proofs.lemmas.Bool.{cases_lt, leb-true, le-leb, and_parts, and_from, cond-true, cond-false, cond_both, ltb-true, ltb-false, cases_Bool, cases_order, and_cases, and_left, and_right, leb-false, lt-leb}
+use Rattle.std.proofs.lemmas.Bool.{cases_lt, leb-true, le-leb, and_parts, and_from, cond-true, cond-false, cond_both, ltb-true, ltb-false, cases_Bool, cases_order, and_cases, leb-false}
 use Rattle.std.proofs.lemmas.Bool.Decides.{nat_tests}
 use Rattle.calendar.specs.declared.date.Date.{Date}
 use Rattle.calendar.specs.Dates.{year_length, month_length, years_before, months_before, real, number, next_day, day_after, date_of}
@@ -190,11 +190,6 @@ no_date n e =
         | inr high ↦ inr (leb-false n 3652425 high)
       ]
     ]
-
-pub outside : (n : ℕ) → (n ≡ 0) ⊎ (3652425 < n) → date_of n ≡ None
-unfolding date_of
-outside n (inl e) = cond-false _ _ None (and_left (leb 1 n) (leb n 3652425) (lt-leb 1 n (omega arith)))
-outside n (inr h) = cond-false _ _ None (and_right (leb 1 n) (leb n 3652425) (lt-leb n 3652425 h))
 
 pub ordered : (a b : Date) → Real a → Real b → earlier a b ≡ ltb (number a) (number b)
 ordered a b is-a is_b =

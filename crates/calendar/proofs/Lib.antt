@@ -1,3 +1,5 @@
 pub mod Counting
 pub mod Dates
 pub mod Nearest
+pub mod Texts
+pub mod Picked

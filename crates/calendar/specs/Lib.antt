@@ -3,3 +3,4 @@ pub mod Dates
 pub mod Numbers
 pub mod Messages
 pub mod Nearest
+pub mod Texts

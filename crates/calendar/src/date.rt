@@ -1,7 +1,11 @@
 // Dates of the Gregorian calendar and the numbers of days.
-ghost use Rattle.std.specs.Prelude.{◌≡◌, ◌+◌, ◌<◌, ◌≤◌};
+ghost use Rattle.std.specs.Prelude.{◌≡◌, ◌+◌, ◌<◌, ◌≤◌, Some};
 ghost use Rattle.calendar.specs.Numbers.{DayNumbers};
 ghost use Rattle.calendar.specs.Dates.{leap, month_length, real, real_date, message_day, number, date_of, years_before};
+ghost use Rattle.calendar.specs.Messages.{candidate};
+ghost use Rattle.calendar.specs.Texts.{date_text};
+
+use std::fmt;
 
 // The years of the calendar are 0 to 9999, and the days are numbered from 1.
 pub const LAST_YEAR: u16 = 9999;
@@ -26,20 +30,41 @@ impl Date {
         ensures { result ≡ real_date year month day }
     {
         let date = Date { year, month, day };
-        if date.is_real() { Some(date) } else { None }
+        date.is_real().then_some(date)
     }
 
+    // The date, if it is a real day of 1900 to 2099.
+    #[tactic(auto, unfolding(crate::specs::Messages::candidate, crate::specs::Dates::message_day))]
+    pub fn message_day(year: u32, month: u8, day: u8) -> Option<Date>
+        ensures { result ≡ candidate year month day }
+    {
+        let year = u16::try_from(year).ok()?;
+        let date = Date { year, month, day };
+        date.is_message_day().then_some(date)
+    }
+
+    #[tactic(auto, unfolding(crate::specs::Dates::real))]
     pub fn is_real(self) -> bool
         ensures { result ≡ real self }
     {
-        self.year <= LAST_YEAR && 1 <= self.day && self.day <= month_length(self.year, self.month)
+        self.year <= LAST_YEAR && (1..=month_length(self.year, self.month)).contains(&self.day)
     }
 
     // A real day of the years 1900 to 2099, as messages and records have them.
+    #[tactic(auto, unfolding(crate::specs::Dates::message_day))]
     pub fn is_message_day(self) -> bool
         ensures { result ≡ message_day self }
     {
-        FIRST_MESSAGE_YEAR <= self.year && self.year <= LAST_MESSAGE_YEAR && self.is_real()
+        (FIRST_MESSAGE_YEAR..=LAST_MESSAGE_YEAR).contains(&self.year) && self.is_real()
+    }
+}
+
+impl fmt::Display for Date {
+    ghost output = { λ d. Some (date_text d) };
+
+    fn fmt<W: fmt::Write>(&self, f: &mut fmt::Formatter<W>) -> fmt::Result {
+        let Date { year, month, day } = *self;
+        write!(f, "{year:04}-{month:02}-{day:02}")
     }
 }
 
@@ -50,6 +75,7 @@ pub fn is_leap(year: u16) -> bool
 }
 
 // The days of the month, 0 where there is no such month.
+#[tactic(auto, unfolding(crate::specs::Dates::month_length))]
 pub fn month_length(year: u16, month: u8) -> u8
     ensures value { result ≡ month_length year month }
     ensures valid { result ≤ 31 }
@@ -63,6 +89,7 @@ pub fn month_length(year: u16, month: u8) -> u8
 }
 
 // The days of all years before.
+#[tactic(auto, using(crate::proofs::Counting::years_closed))]
 fn days_before(year: u16) -> u32
     ensures { result ≡ years_before year }
 {
@@ -71,6 +98,8 @@ fn days_before(year: u16) -> u32
 }
 
 // The number of a day: 1 January of the year 0 has the number 1.
+// A loop, since a sum over a chain of the months left open that it fits.
+#[tactic(auto, using(crate::proofs::Counting::years_most, crate::proofs::Counting::months_most, crate::proofs::Counting::month_more, crate::proofs::Counting::month_none))]
 pub fn day_number(date: Date) -> u32
     ensures { result ≡ number date }
 {
@@ -103,7 +132,7 @@ fn year_of(ordinal: u32) -> u16
 pub fn date_of(ordinal: u32) -> Option<Date>
     ensures { result ≡ date_of ordinal }
 {
-    if ordinal == 0 || ordinal > LAST_DAY {
+    if !(1..=LAST_DAY).contains(&ordinal) {
         return None;
     }
     let year = year_of(ordinal);
@@ -123,8 +152,6 @@ pub fn date_of(ordinal: u32) -> Option<Date>
 }
 
 // Next day, next number; day and number give each other back; the order of days is that of numbers.
-pub fn day_numbers() -> u8
+pub fn day_numbers()
     ensures { DayNumbers }
-{
-    0
-}
+{}

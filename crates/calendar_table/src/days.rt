@@ -3,7 +3,7 @@ use crate::show;
 use calendar::date::{Date, date_of, day_number, is_leap, month_length};
 use std::io;
 
-// Year, month, day.
+// Year, month, day: a row of a table is shorter as a tuple than as a Date.
 type Day = (u16, u8, u8);
 
 const YEARS: [u16; 5] = [1900, 2000, 2023, 2024, 2100];
@@ -45,40 +45,40 @@ const CLAIMED: [Day; 9] = [
     (10000, 1, 1),
 ];
 
-fn leap_years(rt: &HostRuntime, years: &[u16]) -> io::Result<()> {
-    for &year in years {
+fn leap_years(rt: &HostRuntime) -> io::Result<()> {
+    for year in YEARS {
         let leap = is_leap(year);
         println!(rt; "leap {year}: {leap}")?;
     }
     Ok(())
 }
 
-fn lengths(rt: &HostRuntime, months: &[(u16, u8)]) -> io::Result<()> {
-    for &(year, month) in months {
+fn lengths(rt: &HostRuntime) -> io::Result<()> {
+    for (year, month) in MONTHS {
         let length = month_length(year, month);
         println!(rt; "length {year} {month}: {length}")?;
     }
     Ok(())
 }
 
-fn numbers(rt: &HostRuntime, days: &[Day]) -> io::Result<()> {
-    for &(year, month, day) in days {
+fn numbers(rt: &HostRuntime) -> io::Result<()> {
+    for (year, month, day) in DAYS {
         let number = day_number(Date { year, month, day });
         println!(rt; "number {year} {month} {day}: {number}")?;
     }
     Ok(())
 }
 
-fn dates(rt: &HostRuntime, numbers: &[u32]) -> io::Result<()> {
-    for &number in numbers {
+fn dates(rt: &HostRuntime) -> io::Result<()> {
+    for number in NUMBERS {
         print!(rt; "day {number}: ")?;
         show::date(rt, date_of(number))?;
     }
     Ok(())
 }
 
-fn real_dates(rt: &HostRuntime, days: &[Day]) -> io::Result<()> {
-    for &(year, month, day) in days {
+fn real_dates(rt: &HostRuntime) -> io::Result<()> {
+    for (year, month, day) in CLAIMED {
         print!(rt; "date {year} {month} {day}: ")?;
         show::date(rt, Date::new(year, month, day))?;
     }
@@ -86,9 +86,9 @@ fn real_dates(rt: &HostRuntime, days: &[Day]) -> io::Result<()> {
 }
 
 pub fn all(rt: &HostRuntime) -> io::Result<()> {
-    leap_years(rt, &YEARS)?;
-    lengths(rt, &MONTHS)?;
-    numbers(rt, &DAYS)?;
-    dates(rt, &NUMBERS)?;
-    real_dates(rt, &CLAIMED)
+    leap_years(rt)?;
+    lengths(rt)?;
+    numbers(rt)?;
+    dates(rt)?;
+    real_dates(rt)
 }

@@ -33,8 +33,8 @@ const FIELDS: [Case; 23] = [
     ("24022", 2024, 6, 1),
 ];
 
-fn lines(rt: &HostRuntime, cases: &[Case]) -> io::Result<()> {
-    for &(field, year, month, day) in cases {
+pub fn all(rt: &HostRuntime) -> io::Result<()> {
+    for (field, year, month, day) in FIELDS {
         print!(rt; "{field} on {year} {month} {day}: ")?;
         show::date(
             rt,
@@ -42,8 +42,4 @@ fn lines(rt: &HostRuntime, cases: &[Case]) -> io::Result<()> {
         )?;
     }
     Ok(())
-}
-
-pub fn all(rt: &HostRuntime) -> io::Result<()> {
-    lines(rt, &FIELDS)
 }

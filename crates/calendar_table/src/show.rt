@@ -4,7 +4,7 @@ use std::io;
 
 pub fn date(rt: &HostRuntime, found: Option<Date>) -> io::Result<()> {
     match found {
-        Some(Date { year, month, day }) => println!(rt; "{year:04}-{month:02}-{day:02}"),
+        Some(date) => println!(rt; "{date}"),
         None => println!(rt; "none"),
     }
 }

@@ -4,3 +4,4 @@ pub mod Listed
 pub mod Zones
 pub mod Utc
 pub mod Rules
+pub mod Settings

@@ -4,6 +4,7 @@
 pub mod law_rule;
 pub mod list_rule;
 pub mod rule;
+pub mod setting;
 pub mod span;
 pub mod utc;
 pub mod zone;

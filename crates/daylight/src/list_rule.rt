@@ -22,6 +22,7 @@ pub struct ListRule<'a> {
 impl<'a> Rule for ListRule<'a> {
     ghost daylight = { λ l r. list_daylight l.changes.now r };
 
+    // A loop and no `find`, by a rule of the project: its readers see the first entry end it.
     fn is_daylight(&self, reading: (Date, u32)) -> bool {
         for change in self.changes {
             if change.year == reading.0.year {

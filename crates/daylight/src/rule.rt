@@ -13,8 +13,6 @@ pub trait Rule {
 }
 
 // The law rule goes by Sundays, and the list rule by the first entry for the year.
-pub fn rules() -> u8
+pub fn rules()
     ensures { Rules }
-{
-    0
-}
+{}

@@ -13,20 +13,16 @@ pub struct MonthDay {
     pub day: u8,
 }
 
+#[tactic(auto, unfolding(crate::specs::Spans::before_change))]
 fn is_before(reading: (Date, u32), change: MonthDay) -> bool
     ensures { result ≡ before_change reading change }
 {
     let (date, second) = reading;
-    if date.month != change.month {
-        date.month < change.month
-    } else if date.day != change.day {
-        date.day < change.day
-    } else {
-        second < CHANGE
-    }
+    (date.month, date.day, second) < (change.month, change.day, CHANGE)
 }
 
 // From 02:00 on the first day to before 02:00 on the last, in the reading's year.
+#[tactic(auto, unfolding(crate::specs::Spans::between))]
 pub fn is_between(first: MonthDay, last: MonthDay, reading: (Date, u32)) -> bool
     ensures { result ≡ between first last reading }
 {

@@ -1,7 +1,7 @@
 // Local readings in UTC.
-ghost use Rattle.std.specs.Prelude.{◌≡◌, ℕ};
+ghost use Rattle.std.specs.Prelude.{◌≡◌};
 ghost use Rattle.std.specs.Option.{option_map};
-ghost use Rattle.calendar.specs.declared.date.Date.{Date};
+ghost use Rattle.instants.specs.Moments.{moment};
 ghost use Rattle.daylight.specs.Zones.{seconds_behind};
 ghost use Rattle.daylight.specs.Utc.{to_utc, UtcIsLater};
 
@@ -18,8 +18,9 @@ fn seconds_behind(zone: Zone, saving: bool) -> u64
 }
 
 // The time in UTC: the zone's hours are added, one less where daylight time is kept.
+#[tactic(auto, unfolding(crate::specs::Utc::to_utc))]
 pub fn to_utc(reading: (Date, u32), zone: Zone, saving: bool) -> Option<UtcTime>
-    ensures { option_map {U = Date × ℕ} (λ t. (t.date, t.second)) result ≡ to_utc reading zone saving }
+    ensures { option_map moment result ≡ to_utc reading zone saving }
 {
     let second = Move {
         unit: Unit::Second,
@@ -30,8 +31,6 @@ pub fn to_utc(reading: (Date, u32), zone: Zone, saving: bool) -> Option<UtcTime>
 }
 
 // On the line of instants UTC is the reading plus the seconds behind, and it is refused only outside 1900 to 2099.
-pub fn utc_is_later() -> u8
+pub fn utc_is_later()
     ensures { UtcIsLater }
-{
-    0
-}
+{}

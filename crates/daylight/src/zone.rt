@@ -1,6 +1,6 @@
 // Zones and whether they keep daylight time.
 ghost use Rattle.std.specs.Prelude.{◌≡◌};
-ghost use Rattle.daylight.specs.Zones.{hours_of, saving_of, one_letter, two_letters, zone_of, keeps_daylight};
+ghost use Rattle.daylight.specs.Zones.{hours_of, saving_of, zone_of, keeps_daylight};
 
 use crate::rule::Rule;
 use calendar::date::Date;
@@ -19,7 +19,8 @@ pub struct Zone {
     pub saving: Saving,
 }
 
-// The zone letters and their hours behind UTC.
+// The zone letters and their hours behind UTC. An Option and no TryFrom: nobody asks why a letter names no zone.
+#[tactic(auto, unfolding(crate::specs::Zones::hours_of))]
 fn hours_behind(letter: u8) -> Option<u8>
     ensures { result ≡ hours_of letter }
 {
@@ -34,6 +35,8 @@ fn hours_behind(letter: u8) -> Option<u8>
     }
 }
 
+// What a letter behind the zone's says, an Option as above.
+#[tactic(auto, unfolding(crate::specs::Zones::saving_of))]
 fn saving_of(letter: u8) -> Option<Saving>
     ensures { result ≡ saving_of letter }
 {
@@ -44,40 +47,19 @@ fn saving_of(letter: u8) -> Option<Saving>
     }
 }
 
-// A letter alone goes by the daylight rule, and Z is UTC.
-fn one_letter(letter: u8) -> Option<Zone>
-    ensures { result ≡ one_letter letter }
-{
-    if letter == b'Z' {
-        return Some(Zone {
-            hours: 0,
-            saving: Saving::Standard,
-        });
-    }
-    let hours = hours_behind(letter)?;
-    Some(Zone {
-        hours,
-        saving: Saving::ByRule,
-    })
-}
-
-fn two_letters(letter: u8, second: u8) -> Option<Zone>
-    ensures { result ≡ two_letters letter second }
-{
-    let hours = hours_behind(letter)?;
-    let saving = saving_of(second)?;
-    Some(Zone { hours, saving })
-}
-
-// The zone that a word names: Z, a zone letter alone, or one with S or D behind it.
+// The zone that a word names: Z, which is UTC, a zone letter alone, which goes by the daylight rule, or one with S or D
+// behind it.
+#[tactic(auto, unfolding(crate::specs::Zones::one_letter, crate::specs::Zones::two_letters))]
 pub fn zone_of(word: &[u8]) -> Option<Zone>
     ensures { result ≡ zone_of word.now }
 {
-    match *word {
-        [letter] => one_letter(letter),
-        [letter, second] => two_letters(letter, second),
-        _ => None,
-    }
+    let (hours, saving) = match *word {
+        [b'Z'] => (0, Saving::Standard),
+        [letter] => (hours_behind(letter)?, Saving::ByRule),
+        [letter, second] => (hours_behind(letter)?, saving_of(second)?),
+        _ => return None,
+    };
+    Some(Zone { hours, saving })
 }
 
 pub fn is_saving<R: Rule>(rule: &R, zone: Zone, reading: (Date, u32)) -> bool

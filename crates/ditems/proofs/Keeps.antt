@@ -1,6 +1,7 @@
 -- Items of the clock keep the date. Assumes nothing.
 use Rattle.std.proofs.Common.{◌≡◌, ℕ, ◌≤◌, Bool, cond, leb, ◌⊎◌, List, [], ◌∷◌, Some, None, Option, refl, ap, ◌∙◌, subst, inl, inr}
 use Rattle.std.proofs.lemmas.Bool.{le-leb}
+use Rattle.std.proofs.lemmas.Option.{none-some, same_Some}
 use Rattle.text.specs.Signs.{pair_of}
 use Rattle.calendar.specs.Ways.{and_then}
 use Rattle.ditems.specs.declared.groups.Groups.{Groups}
@@ -9,7 +10,7 @@ use Rattle.ditems.specs.declared.groups.Group.TheVariants.{Century, Year, Month,
 use Rattle.ditems.specs.Groups.{groups, with_group, smaller, zeroed, set_from}
 use Rattle.ditems.specs.Times.{time_item, some_groups}
 use Rattle.ditems.specs.TimeLaws.{SameDate}
-use Rattle.ditems.proofs.Somes.{none-some, some_same, then_some, when-some}
+use Rattle.ditems.proofs.Somes.{then_some, when-some}
 
 -- no group, or one of the clock
 abbrev Late : Option Group → Type 0
@@ -64,7 +65,7 @@ zeroed_late g (Some Minute) l = keep g g.hour 0 0
 zeroed_late g (Some Second) l = keep g g.hour g.minute 0
 
 set_late : (next : Option Group) (g h : Groups) (xs : List ℕ) → Late next → set_from next g xs ≡ Some h → SameDate g h
-set_late next g h [] l e = from_same g (zeroed g next) h (zeroed_late g next l) (some_same (zeroed g next) h e)
+set_late next g h [] l e = from_same g (zeroed g next) h (zeroed_late g next l) (same_Some (zeroed g next) h e)
 set_late next g h (a ∷ []) l e = absurd (none-some h e)
 set_late next g h (a ∷ b ∷ rest) l e =
     let p = then_some (pair_of a b) (λ n. and_then next (λ group. and_then (with_group g group n) (λ set. set_from (smaller group) set rest))) h e in

@@ -1,10 +1,17 @@
 -- One group more. Assumes nothing.
-use Rattle.std.proofs.Common.{◌≡◌, ℕ, List, ◌∷◌, Some, Option, sym, ap, ◌∙◌}
+use Rattle.std.proofs.Common.{◌≡◌, ℕ, List, [], ◌∷◌, ◌++◌, length, get_or, Some, Option, sym, ap, ◌∙◌, arith}
 use Rattle.text.specs.Signs.{pair_of}
 use Rattle.ditems.specs.declared.groups.Groups.{Groups}
 use Rattle.ditems.specs.declared.groups.Group.{Group}
 use Rattle.calendar.specs.Ways.{and_then}
 use Rattle.ditems.specs.Groups.{set_from, with_group, smaller}
+
+-- a pair that comes off the front
+pub pair_off : (xs pair rest : List ℕ) → xs ≡ pair ++ rest → length pair ≡ 2 → xs ≡ get_or pair 0 0 ∷ get_or pair 1 0 ∷ rest
+pair_off xs [] rest e two = absurd (omega arith)
+pair_off xs (a ∷ []) rest e two = absurd (omega arith)
+pair_off xs (a ∷ b ∷ []) rest e two = e
+pair_off xs (a ∷ b ∷ c ∷ more) rest e two = absurd (omega arith)
 
 pub set_one : (next after : Option Group) (g set : Groups) (group : Group) (a b n : ℕ) (rest : List ℕ)
     → Some n ≡ pair_of a b → next ≡ Some group → Some set ≡ with_group g group n → after ≡ smaller group

@@ -1,6 +1,6 @@
 // The time groups of a message, as its date and its D items set them.
 ghost use Rattle.std.specs.Prelude.{◌≡◌};
-ghost use Rattle.ditems.specs.Groups.{smaller, within, with_group, zeroed, in_year, groups_at};
+ghost use Rattle.ditems.specs.Groups.{smaller, with_group, zeroed, in_year, groups_at};
 
 use calendar::date::Date;
 
@@ -43,12 +43,6 @@ impl Group {
     }
 }
 
-fn between(low: u8, n: u8, high: u8) -> bool
-    ensures { result ≡ within low n high }
-{
-    low <= n && n <= high
-}
-
 impl Groups {
     // The groups of a full hour on a date.
     pub fn new(date: Date, hour: u8) -> Groups
@@ -69,17 +63,17 @@ impl Groups {
     pub fn with(self, group: Group, n: u8) -> Option<Groups>
         ensures { result ≡ with_group self group n }
     {
-        match group {
-            Group::Century => Some(Groups {
+        match (group, n) {
+            (Group::Century, _) => Some(Groups {
                 century: u16::from(n),
                 ..self
             }),
-            Group::Year => Some(Groups { year: n, ..self }),
-            Group::Month if between(1, n, 12) => Some(Groups { month: n, ..self }),
-            Group::Day if between(1, n, 31) => Some(Groups { day: n, ..self }),
-            Group::Hour if n <= 24 => Some(Groups { hour: n, ..self }),
-            Group::Minute if n <= 59 => Some(Groups { minute: n, ..self }),
-            Group::Second if n <= 59 => Some(Groups { second: n, ..self }),
+            (Group::Year, _) => Some(Groups { year: n, ..self }),
+            (Group::Month, 1..=12) => Some(Groups { month: n, ..self }),
+            (Group::Day, 1..=31) => Some(Groups { day: n, ..self }),
+            (Group::Hour, ..=24) => Some(Groups { hour: n, ..self }),
+            (Group::Minute, ..=59) => Some(Groups { minute: n, ..self }),
+            (Group::Second, ..=59) => Some(Groups { second: n, ..self }),
             _ => None,
         }
     }

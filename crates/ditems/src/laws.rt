@@ -1,8 +1,6 @@
 // Laws of time items and readings.
 ghost use Rattle.ditems.specs.TimeLaws.{TimeLaws};
 
-pub fn time_laws() -> u8
+pub fn time_laws()
     ensures { TimeLaws }
-{
-    0
-}
+{}

@@ -1,10 +1,11 @@
 // The moves of DR and DI: a unit's letter, perhaps a sign, and one or two digits.
 ghost use Rattle.std.specs.Prelude.{◌≡◌, ◌<◌, IfSome};
-ghost use Rattle.ditems.specs.Moves.{unit_of, figures, is_back, less_sign, count_of, move_of};
+ghost use Rattle.ditems.specs.Moves.{unit_of, figures, count_of, move_of};
 
 use instants::moves::{Move, Unit};
 use text::{is_digit, two_digits};
 
+// An Option and no TryFrom: nobody asks why a letter names no unit.
 fn unit_of(letter: u8) -> Option<Unit>
     ensures { result ≡ unit_of letter }
 {
@@ -25,33 +26,27 @@ fn read_figures(bytes: &[u8]) -> Option<u8>
     ensures value { result ≡ figures bytes.now }
     ensures valid { IfSome result (λ n. n < 100) }
 {
-    match bytes {
-        [a] if is_digit(*a) => Some(*a - b'0'),
-        [a, b] => two_digits(*a, *b),
+    match *bytes {
+        [a] if is_digit(a) => Some(a - b'0'),
+        [a, b] => two_digits(a, b),
         _ => None,
     }
 }
 
-// Whether a minus stands in front, and what follows the sign, if there is one.
-fn split_sign(bytes: &[u8]) -> (bool, &[u8])
-    ensures { (result.0 ≡ is_back bytes.now) × (result.1.now ≡ less_sign bytes.now) }
-{
-    match bytes {
-        [b'-', rest @ ..] => (true, rest),
-        [b'+', rest @ ..] => (false, rest),
-        _ => (false, bytes),
-    }
-}
-
+// Perhaps a sign, and figures.
+#[tactic(auto, unfolding(crate::specs::Moves::count_of))]
 fn read_count(bytes: &[u8]) -> Option<i8>
     ensures { result ≡ count_of bytes.now }
 {
-    let (is_back, rest) = split_sign(bytes);
-    let size = read_figures(rest)? as i8;
-    Some(if is_back { -size } else { size })
+    match bytes {
+        [b'-', rest @ ..] => Some(-(read_figures(rest)? as i8)),
+        [b'+', rest @ ..] => Some(read_figures(rest)? as i8),
+        _ => Some(read_figures(bytes)? as i8),
+    }
 }
 
 // The move that a unit's letter and a count say.
+#[tactic(auto, unfolding(crate::specs::Moves::move_of))]
 pub fn move_of(bytes: &[u8]) -> Option<Move>
     ensures { result ≡ move_of bytes.now }
 {

@@ -1,7 +1,7 @@
 // The D items that set the time: a letter says which group comes first, and two-digit groups follow.
 ghost use Rattle.std.specs.Prelude.{◌≡◌, Some};
 ghost use Rattle.ditems.specs.Groups.{set_from};
-ghost use Rattle.ditems.specs.Times.{group_of, some_groups, year_item, time_item};
+ghost use Rattle.ditems.specs.Times.{group_of, year_item, time_item};
 
 use crate::groups::{Group, Groups};
 use calendar::message::full_year;
@@ -13,22 +13,19 @@ pub fn set_groups(groups: Groups, first: Group, digits: &[u8]) -> Option<Groups>
 {
     let mut set = groups;
     let mut next = Some(first);
-    let mut rest = digits;
-    while let [a, b, tail @ ..] = rest {
-        let n = two_digits(*a, *b)?;
+    for pair in digits.chunks(2) {
+        let [a, b] = *pair else {
+            return None;
+        };
+        let n = two_digits(a, b)?;
         let group = next?;
         set = set.with(group, n)?;
         next = group.next();
-        rest = tail;
     }
-    if rest.is_empty() {
-        Some(set.zeroed_from(next))
-    } else {
-        None
-    }
+    Some(set.zeroed_from(next))
 }
 
-// The group at which the item of this letter begins.
+// The group at which the item of this letter begins, an Option as with the units' letters.
 fn first_group(letter: u8) -> Option<Group>
     ensures { result ≡ group_of letter }
 {
@@ -44,17 +41,8 @@ fn first_group(letter: u8) -> Option<Group>
     }
 }
 
-fn some_groups(groups: Groups, first: Group, digits: &[u8]) -> Option<Groups>
-    ensures { result ≡ some_groups groups first digits.now }
-{
-    if digits.is_empty() {
-        None
-    } else {
-        set_groups(groups, first, digits)
-    }
-}
-
 // Two digits of a year give its century too, and months may follow.
+#[tactic(auto, unfolding(crate::specs::Times::year_item))]
 fn year_item(groups: Groups, digits: &[u8], current_year: u16) -> Option<Groups>
     ensures { result ≡ year_item groups current_year digits.now }
 {
@@ -70,11 +58,13 @@ fn year_item(groups: Groups, digits: &[u8], current_year: u16) -> Option<Groups>
 }
 
 // What a time item's letter and digits make of the groups.
+#[tactic(auto, unfolding(crate::specs::Times::time_item, crate::specs::Times::some_groups))]
 pub fn time_item(groups: Groups, letter: u8, digits: &[u8], current_year: u16) -> Option<Groups>
     ensures { result ≡ time_item groups letter current_year digits.now }
 {
     match first_group(letter)? {
         Group::Year => year_item(groups, digits, current_year),
-        first => some_groups(groups, first, digits),
+        _ if digits.is_empty() => None,
+        first => set_groups(groups, first, digits),
     }
 }

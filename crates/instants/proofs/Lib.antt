@@ -1,2 +1,1 @@
-pub mod Shifting
 pub mod Moving

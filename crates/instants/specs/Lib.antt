@@ -1,4 +1,4 @@
 pub mod Utc
+pub mod Moments
 pub mod Moves
-pub mod Shifts
 pub mod Moving

@@ -1,13 +1,12 @@
 // Moves of local readings along the calendar.
-ghost use Rattle.std.specs.Prelude.{◌≡◌, ◌*◌, ◌^◌, ◌<◌, ◌≤◌, min, pos, ◌+ℤ◌, ◌*ℤ◌};
+ghost use Rattle.std.specs.Prelude.{◌≡◌, pos, ◌+ℤ◌, ◌*ℤ◌};
 ghost use Rattle.calendar.specs.Dates.{date_of};
 ghost use Rattle.instants.specs.Moving.{Moving};
-ghost use Rattle.instants.specs.Moves.{natural, by_seconds, by_days, month_from, by_months, to_month_end, real_moved, moved};
-ghost use Rattle.instants.specs.Shifts.{signed};
+ghost use Rattle.instants.specs.Moves.{natural, by_seconds, by_days, month_from, by_months, to_month_end, moved};
 
-use calendar::date::{Date, LAST_DAY, LAST_YEAR, date_of, day_number, month_length};
+use calendar::date::{Date, LAST_YEAR, date_of, day_number, month_length};
 
-const DAY: u128 = 86_400;
+const DAY: u64 = 86_400;
 
 #[derive(Clone, Copy)]
 pub enum Unit {
@@ -26,84 +25,46 @@ pub struct Move {
     pub count: i8,
 }
 
-// A distance and its direction.
-#[derive(Clone, Copy)]
-struct Shift {
-    size: u128,
-    back: bool,
+// The place that lies so far from `start`, where it is not below 0.
+fn place_from(start: u64, distance: i128) -> Option<u128>
+    ensures { result ≡ natural (pos start +ℤ distance) }
+{
+    u128::from(start).checked_add_signed(distance)
 }
 
-impl Shift {
-    fn new(count: i8, times: u64) -> Shift
-        ensures value { signed result ≡ pos times *ℤ count }
-        ensures valid { result.size ≤ 2 ^ 72 }
-    {
-        Shift {
-            size: u128::from(times) * u128::from(count.unsigned_abs()),
-            back: count < 0,
-        }
-    }
-
-    fn scaled(self, units: u16) -> Shift
-        requires { self.size ≤ 2 ^ 72 }
-        ensures value { signed result ≡ pos units *ℤ signed self }
-        ensures valid { result.size < 2 ^ 90 }
-    {
-        Shift {
-            size: u128::from(units) * self.size,
-            back: self.back,
-        }
-    }
-
-    // The place that lies so far from `start`, where it is not below 0.
-    fn applied_to(self, start: u128) -> Option<u128>
-        requires { (self.size < 2 ^ 90) × (start < 2 ^ 90) }
-        ensures { result ≡ natural (pos start +ℤ signed self) }
-    {
-        if !self.back {
-            Some(start + self.size)
-        } else if self.size <= start {
-            Some(start - self.size)
-        } else {
-            None
-        }
-    }
-}
-
+#[tactic(auto, unfolding(calendar::specs::Dates::date_of))]
 fn day_at(ordinal: u128) -> Option<Date>
     ensures { result ≡ date_of ordinal }
 {
-    if ordinal > u128::from(LAST_DAY) {
-        return None;
-    }
-    date_of(ordinal as u32)
+    date_of(u32::try_from(ordinal).ok()?)
 }
 
-fn move_seconds(reading: (Date, u32), by: Shift) -> Option<(Date, u32)>
-    requires { by.size < 2 ^ 90 }
-    ensures { result ≡ by_seconds reading (signed by) }
+// A reading is a pair of a date and a second of the day, by a rule of the project.
+#[tactic(auto, unfolding(crate::specs::Moves::by_seconds))]
+fn move_seconds(reading: (Date, u32), distance: i128) -> Option<(Date, u32)>
+    ensures { result ≡ by_seconds reading distance }
 {
     let (date, second) = reading;
-    let instant = by.applied_to(u128::from(day_number(date)) * DAY + u128::from(second))?;
-    let date = day_at(instant / DAY)?;
-    Some((date, (instant % DAY) as u32))
+    let start = u64::from(day_number(date)) * DAY + u64::from(second);
+    let instant = place_from(start, distance)?;
+    let date = day_at(instant / u128::from(DAY))?;
+    Some((date, (instant % u128::from(DAY)) as u32))
 }
 
-fn move_days(date: Date, by: Shift) -> Option<Date>
-    requires { by.size < 2 ^ 90 }
-    ensures { result ≡ by_days date (signed by) }
+#[tactic(auto, unfolding(crate::specs::Moves::by_days))]
+fn move_days(date: Date, distance: i128) -> Option<Date>
+    ensures { result ≡ by_days date distance }
 {
-    day_at(by.applied_to(u128::from(day_number(date)))?)
+    day_at(place_from(u64::from(day_number(date)), distance)?)
 }
 
 // The year and the month that lie so many months away.
-fn move_months(date: Date, by: Shift) -> Option<(u16, u8)>
-    requires { by.size < 2 ^ 90 }
-    ensures { result ≡ month_from date (signed by) }
+#[tactic(auto, unfolding(crate::specs::Moves::month_from))]
+fn move_months(date: Date, distance: i128) -> Option<(u16, u8)>
+    ensures { result ≡ month_from date distance }
 {
-    let place = by.applied_to(
-        u128::from(date.year) * 12 + u128::from(date.month.saturating_sub(1)),
-    )?;
+    let start = u64::from(date.year) * 12 + u64::from(date.month.saturating_sub(1));
+    let place = place_from(start, distance)?;
     if place / 12 > u128::from(LAST_YEAR) {
         return None;
     }
@@ -111,55 +72,49 @@ fn move_months(date: Date, by: Shift) -> Option<(u16, u8)>
 }
 
 // The day is cut to the length of the new month.
-fn keep_day(date: Date, by: Shift) -> Option<Date>
-    requires { by.size < 2 ^ 90 }
-    ensures { result ≡ by_months date (signed by) }
+#[tactic(auto, unfolding(crate::specs::Moves::by_months))]
+fn keep_day(date: Date, distance: i128) -> Option<Date>
+    ensures { result ≡ by_months date distance }
 {
-    let (year, month) = move_months(date, by)?;
+    let (year, month) = move_months(date, distance)?;
     let day = date.day.min(month_length(year, month));
     Some(Date { year, month, day })
 }
 
-fn last_day(date: Date, by: Shift) -> Option<Date>
-    requires { by.size < 2 ^ 90 }
-    ensures { result ≡ to_month_end date (signed by) }
+// The day is the last of the month. It shares the month with keep_day; one function of both would take the day as a
+// closure, and be longer than the two.
+#[tactic(auto, unfolding(crate::specs::Moves::to_month_end))]
+fn last_day(date: Date, distance: i128) -> Option<Date>
+    ensures { result ≡ to_month_end date distance }
 {
-    let (year, month) = move_months(date, by)?;
+    let (year, month) = move_months(date, distance)?;
     let day = month_length(year, month);
     Some(Date { year, month, day })
 }
 
-fn move_real(reading: (Date, u32), unit: Unit, by: Shift) -> Option<(Date, u32)>
-    requires { by.size ≤ 2 ^ 72 }
-    ensures { result ≡ real_moved reading unit (signed by) }
-{
-    let (date, second) = reading;
-    match unit {
-        Unit::Second => move_seconds(reading, by),
-        Unit::Minute => move_seconds(reading, by.scaled(60)),
-        Unit::Hour => move_seconds(reading, by.scaled(3600)),
-        Unit::Day => Some((move_days(date, by)?, second)),
-        Unit::Month => Some((keep_day(date, by)?, second)),
-        Unit::Year => Some((keep_day(date, by.scaled(12))?, second)),
-        Unit::MonthEnd => Some((last_day(date, by)?, second)),
-    }
-}
-
 // The reading, moved in one move by so many times the count of the unit. By seconds, minutes and hours the second
 // comes out below 86,400; the other units keep it.
+#[tactic(auto, unfolding(crate::specs::Moves::moved))]
 pub fn moved(reading: (Date, u32), by: Move, times: u64) -> Option<(Date, u32)>
     ensures { result ≡ moved reading by.unit (pos times *ℤ by.count) }
 {
-    if reading.0.is_real() {
-        move_real(reading, by.unit, Shift::new(by.count, times))
-    } else {
-        None
+    let (date, second) = reading;
+    if !date.is_real() {
+        return None;
+    }
+    let count = i128::from(times) * i128::from(by.count);
+    match by.unit {
+        Unit::Second => move_seconds(reading, count),
+        Unit::Minute => move_seconds(reading, 60 * count),
+        Unit::Hour => move_seconds(reading, 3600 * count),
+        Unit::Day => Some((move_days(date, count)?, second)),
+        Unit::Month => Some((keep_day(date, count)?, second)),
+        Unit::Year => Some((keep_day(date, 12 * count)?, second)),
+        Unit::MonthEnd => Some((last_day(date, count)?, second)),
     }
 }
 
 // Where moves land, and that they fail only where the calendar has no such place.
-pub fn moving() -> u8
+pub fn moving()
     ensures { Moving }
-{
-    0
-}
+{}

@@ -1,8 +1,7 @@
 // A second in UTC of the years 1900 to 2099.
-ghost use Rattle.std.specs.Prelude.{◌≡◌, ℕ, ◌/◌, true, if◌then◌else◌, Some, None};
+ghost use Rattle.std.specs.Prelude.{◌≡◌, ◌/◌, true, if◌then◌else◌, Some, None};
 ghost use Rattle.std.specs.Option.{option_map};
 ghost use Rattle.instants.specs.Utc.{utc_time};
-ghost use Rattle.calendar.specs.declared.date.Date.{Date};
 
 use crate::utc_minute::UtcMinute;
 use calendar::date::Date;
@@ -15,8 +14,10 @@ pub struct UtcTime {
 }
 
 impl UtcTime {
+    ghost use Rattle.instants.specs.Moments.{moment};
+
     pub fn new(date: Date, second: u32) -> Option<UtcTime>
-        ensures { option_map {U = Date × ℕ} (λ t. (t.date, t.second)) result ≡ (if utc_time date second then Some (date, second) else None) }
+        ensures { option_map moment result ≡ (if utc_time date second then Some (date, second) else None) }
     {
         if date.is_message_day() && second < 86_400 {
             Some(UtcTime { date, second })

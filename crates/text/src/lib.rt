@@ -7,13 +7,13 @@ ghost use Rattle.text.specs.Signs.{digit, capital, sign, pair_of};
 pub fn is_digit(b: u8) -> bool
     ensures { result ≡ digit b }
 {
-    b >= b'0' && b <= b'9'
+    b.is_ascii_digit()
 }
 
 pub fn is_capital(b: u8) -> bool
     ensures { result ≡ capital b }
 {
-    b >= b'A' && b <= b'Z'
+    b.is_ascii_uppercase()
 }
 
 // A capital or a digit.
@@ -28,9 +28,5 @@ pub fn two_digits(a: u8, b: u8) -> Option<u8>
     ensures value { result ≡ pair_of a b }
     ensures valid { IfSome result (λ n. n < 100) }
 {
-    if is_digit(a) && is_digit(b) {
-        Some((a - b'0') * 10 + (b - b'0'))
-    } else {
-        None
-    }
+    (is_digit(a) && is_digit(b)).then(|| (a - b'0') * 10 + (b - b'0'))
 }

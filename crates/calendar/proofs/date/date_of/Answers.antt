@@ -1,16 +1,13 @@
-use Rattle.std.proofs.Common.{◌≡◌, sym, ap, ◌∙◌, inl, inr, arith}
+use Rattle.std.proofs.Common.{◌≡◌, sym, ap, ◌∙◌, arith, rules}
 use Rattle.calendar.specs.declared.date.Date.{Date}
 use Rattle.calendar.specs.Dates.{months_before, date_of}
 use Rattle.calendar.proofs.Counting.{month_more, month_first, months_all, year_more}
-use Rattle.calendar.proofs.Dates.{outside, date_of-number, real_parts, real_from}
+use Rattle.calendar.proofs.Dates.{date_of-number, real_parts, real_from}
 use Rattle.calendar.proofs.date.date_of.Goals as goal
 
-pub returns-then-ordinal-eq0 : goal.returns-then-ordinal-eq0
-returns-then-ordinal-eq0 c =
-    elim c.then-ordinal-eq0.either [
-      | inl e ↦ sym (outside c.args.ordinal (inl e))
-      | inr h ↦ sym (outside c.args.ordinal (inr h.1))
-    ]
+pub returns-then-not-contains : goal.returns-then-not-contains
+unfolding date_of
+returns-then-not-contains c = search rules
 
 pub loop-month-init : goal.loop-month-init
 loop-month-init c =
