@@ -1,19 +1,11 @@
 -- Numbers and dates that are written are read back.
 use Rattle.std.proofs.Common.{◌≡◌, ℕ, ◌+◌, ◌*◌, ◌/◌, ◌%◌, ◌<◌, ◌≤◌, Bool, true, false, cond, ◌&&◌, ◌||◌, eqb, leb, List, [], ◌∷◌, ◌++◌, get_or, Some, None, Option, ap, ◌∙◌, arith}
-use Rattle.std.proofs.lemmas.Bool.{cond-true, le-leb, and_from, and_parts}
-use Rattle.text.specs.Signs.{pair_of}
+use Rattle.std.proofs.lemmas.Bool.{cond-true, and_parts}
 use Rattle.values.specs.Writing.{digits}
 use Rattle.calendar.specs.Dates.{message_day, real, month_length, leap}
 use Rattle.calendar.proofs.Dates.{real_parts}
 use Rattle.calendar.specs.declared.date.Date.{Date}
 use Rattle.line.specs.Lines.{Writable, date_text, second_text, minute_text}
-
-pub two_back : (n a b : ℕ) → n < 100 → digits 2 n ≡ a ∷ b ∷ [] → pair_of a b ≡ Some n
-two_back n a b h e =
-    let tens : 48 + n / 10 % 10 ≡ a = ap (λ (l : List ℕ). get_or l 0 0) e in
-    let units : 48 + n % 10 ≡ b = ap (λ (l : List ℕ). get_or l 1 0) e in
-    cond-true _ _ _ (and_from _ _ (and_from _ _ (le-leb 48 a (omega arith)) (le-leb a 57 (omega arith))) (and_from _ _ (le-leb 48 b (omega arith)) (le-leb b 57 (omega arith))))
-    ∙ ap Some (omega arith)
 
 -- p is what two digits at a place say
 abbrev pub Says : List ℕ → ℕ → ℕ → ℕ → Type 0

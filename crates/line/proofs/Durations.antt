@@ -2,6 +2,8 @@
 use Rattle.std.proofs.Common.{◌≡◌, ℕ, ◌<◌, Bool, true, ◌&&◌, eqb, ltb, List, [], ◌∷◌, get_or, Some, refl, ◌∙◌, arith}
 use Rattle.std.proofs.lemmas.Bool.{cond_both, cond-true, and_from, and_parts, ltb-true, eqb-true}
 use Rattle.std.proofs.lemmas.Bool.Decides.{nat_tests}
+use Rattle.std.specs.List.{find}
+use Rattle.std.specs.Option.{option_map}
 use Rattle.quantity.specs.Codes.{durations, number_in, duration_number, is_just, is_variable, variable_number, goes_with, duration_fits, full_code}
 use Rattle.quantity.specs.Parameters.{parameter_from}
 
@@ -14,7 +16,7 @@ unfolding small
 fixed_small letter n [] s e = absurd (grind (arith, nat_tests))
 fixed_small letter n (d ∷ ds) s e =
     let parts = and_parts (ltb d.1 10000) (small ds) s in
-    cond_both (eqb letter d.0) (Some d.1) (number_in letter ds) (λ o. is_just o n ≡ true → n < 10000)
+    cond_both (eqb d.0 letter) (Some d) (find (λ d. eqb d.0 letter) ds) (λ o. is_just (option_map (λ d. d.1) o) n ≡ true → n < 10000)
     (λ _ h. omega (arith, ltb-true d.1 10000 parts.0, eqb-true d.1 n h))
     (λ _ h. fixed_small letter n ds parts.1 h) e
 

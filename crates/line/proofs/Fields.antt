@@ -1,7 +1,6 @@
 -- What the columns of a line give.
-use Rattle.std.proofs.Common.{◌≡◌, ℕ, Bool, true, false, cond, eqb, List, ℤ, IfSome, Some, None, Option, sym, ap, ◌∙◌, arith}
+use Rattle.std.proofs.Common.{◌≡◌, ℕ, Bool, true, false, cond, eqb, List, ℤ, IfSome, Some, None, Option, sym, ap, ◌∙◌}
 use Rattle.std.proofs.lemmas.Bool.{cond-true}
-use Rattle.std.proofs.lemmas.Bool.Decides.{nat_tests}
 use Rattle.quantity.specs.Amounts.{holdable}
 use Rattle.quantity.specs.Values.{value_of}
 use Rattle.quantity.specs.declared.value.Value.{Value}
@@ -14,7 +13,7 @@ use Rattle.text.specs.Signs.{capital}
 use Rattle.line.specs.Lines.{or_blank, revision_sign}
 
 pub none-some : {A : Type 0} {x : A} {P : Type 0} → ◌≡◌ {A = Option A} None (Some x) → P
-none-some {A} {x} {P} e = let z : ◌≡◌ {A = ℕ} 0 1 = cc in absurd (omega arith)
+none-some {A} {x} {P} e = cc
 
 pub some_same : {A : Type 0} {x y : A} → ◌≡◌ {A = Option A} (Some x) (Some y) → x ≡ y
 some_same e = cc
@@ -32,9 +31,6 @@ source_back column (Some text) e h = name_back column text e h
 pub revised_back : (b : ℕ) (r : Bool) → b ≡ revision_sign r → eqb b 49 ≡ r
 revised_back b true e = ap (λ n. eqb n 49) e
 revised_back b false e = ap (λ n. eqb n 49) e
-
-pub both_ways : (b : Bool) → b ≡ true → b ≡ false → ⊥
-both_ways b e f = let z : true ≡ false = sym e ∙ f in grind (arith, nat_tests)
 
 pub amount_held : (v : Option ℤ) → IfSome v (λ z. holdable z ≡ true) → Held v
 amount_held None h = tt

@@ -1,25 +1,7 @@
 -- Texts placed one after the other, and among blanks.
-use Rattle.std.proofs.Common.{◌≡◌, ℕ, suc, ◌+◌, ◌-◌, ◌≤◌, List, [], ◌∷◌, ◌++◌, length, take, drop, replicate, sym, refl, ap, ◌∙◌, append_assoc, append-nil, arith}
-use borrow.Rule.Slice.PartMut.{put_mid}
-use Rattle.std.proofs.lemmas.List.{length-append, take_at, drop_at, drop-drop, drop_all, drop-replicate}
+use Rattle.std.proofs.Common.{◌≡◌, ℕ, suc, ◌+◌, ◌-◌, ◌≤◌, List, [], ◌∷◌, ◌++◌, length, take, drop, replicate, sym, ap, ◌∙◌, append_assoc, arith}
+use Rattle.std.proofs.lemmas.List.{length-append, take_at, drop_at, drop-drop, drop-replicate}
 use Rattle.line.specs.Places.{placed}
-
-pub placed_is : (at k : ℕ) (xs ys zs : List ℕ) → ys ≡ zs → k ≡ length zs → put_mid at k xs ys ≡ placed xs at zs
-placed_is at k xs ys zs e l =
-    ap (λ m. take at xs ++ (ys ++ m)) (drop-drop k at xs ∙ ap (λ m. drop (at + m) xs) l) ∙ ap (λ m. take at xs ++ (m ++ drop (at + length zs) xs)) e
-
--- two texts that fill a place
-pub both : (d xs ys : List ℕ) → length d ≡ length xs + length ys → placed (placed d 0 xs) (length xs) ys ≡ xs ++ ys
-both d xs ys l =
-    let rest : List ℕ = drop (0 + length xs) d in
-    let none : drop (length xs + length ys) (xs ++ rest) ≡ [] =
-    sym (drop-drop (length ys) (length xs) (xs ++ rest)) ∙ ap (drop (length ys)) (drop_at xs rest (length xs) refl)
-    ∙ drop-drop (length ys) (0 + length xs) d ∙ drop_all (0 + length xs + length ys) d (omega arith) in
-    (λ i. take_at xs rest (length xs) refl i ++ (ys ++ none i)) ∙ ap (λ l. xs ++ l) (append-nil ys)
-
-pub both_are : (d X Y : List ℕ) (n : ℕ) {o p xs ys : List ℕ} → o ≡ placed d 0 xs → p ≡ placed o n ys → xs ≡ X → ys ≡ Y → length X ≡ n → length d ≡ n + length Y → p ≡ X ++ Y
-both_are d X Y n {o} {p} e f g h l m =
-    f ∙ ap (placed o n) h ∙ ap (λ k. placed k n Y) (e ∙ ap (placed d 0) g) ∙ ap (λ k. placed (placed d 0 X) k Y) (sym l) ∙ both d X Y (m ∙ ap (λ k. k + length Y) (sym l))
 
 -- xs, of n bytes, and then m blanks
 pub record Sofar (o xs : List ℕ) (n m : ℕ) : Type 0 where

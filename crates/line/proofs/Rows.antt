@@ -4,7 +4,7 @@ use mathlib.Core.HLevel.{Unit-prop, ×_prop, is_prop→PathP}
 use mathlib.Core.List.{is_set}
 use native.Mathlib.Nat.{ℕ_set}
 use Rattle.std.specs.List.{flat_map, AllByRecursion}
-use Rattle.std.proofs.lemmas.List.{take_at, drop_at, drop-drop, length-append, take-append-drop}
+use Rattle.std.proofs.lemmas.List.{take_at, drop_at, drop-drop, take-append-drop}
 use Rattle.record.specs.Entries.{Entry}
 use Rattle.record.specs.Validity.{Valid}
 use Rattle.record.proofs.Valid.{valid_prop}
@@ -42,10 +42,6 @@ shown_prop bytes count s t =
       many = is_prop→PathP (λ j. length (same j) ≡ count) (λ j. ℕ_set (length (same j)) count) s.many t.many i;
       text = is_prop→PathP (λ j. take (80 * count) bytes ≡ flat_map line (same j)) (λ j. is_set ℕ_set (take (80 * count) bytes) (flat_map line (same j))) s.text t.text i;
     }
-
-pub joined_long : (es : List Entry) → AllByRecursion Valid es → length (flat_map line es) ≡ 80 * length es
-joined_long [] v = refl
-joined_long (e ∷ es) v = length-append (line e) (flat_map line es) ∙ omega (arith, line_long e v.0, joined_long es v.1)
 
 -- the line at a place
 pub line_at : (es : List Entry) (rest : List ℕ) (i : ℕ) (d : Entry) → AllByRecursion Valid es → i < length es → take 80 (drop (80 * i) (flat_map line es ++ rest)) ≡ line (get_or es i d)

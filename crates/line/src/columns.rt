@@ -1,4 +1,5 @@
 // Fields from their columns. What is not the text of a field may give any field here: a line is read strictly by writing it again.
+// Columns are slices of a known length and no arrays, since cutting an array out of a line could fail, and cutting a slice cannot.
 ghost use Rattle.std.specs.Prelude.{◌≡◌, ℕ, ◌+◌, ◌<◌, ◌≤◌, true, List, [], ◌∷◌, ◌++◌, length, IfSome, if◌then◌else◌, Some, None, Option};
 ghost use Rattle.values.specs.Writing.{digits};
 ghost use Rattle.instants.specs.Utc.{utc_minute, utc_time};
@@ -6,7 +7,8 @@ ghost use Rattle.calendar.specs.declared.date.Date.{Date};
 ghost use Rattle.line.specs.Lines.{Writable, date_text, minute_text, or_blank, second_text, series_sign};
 ghost use Rattle.quantity.specs.Codes.{duration_fits, full_code};
 ghost use Rattle.quantity.specs.Parameters.{measured};
-ghost use Rattle.record.specs.Entries.{minute_of, moment, name};
+ghost use Rattle.instants.specs.Moments.{minute_of, moment};
+ghost use Rattle.record.specs.Entries.{name};
 ghost use Rattle.record.specs.Stations.{station_text};
 ghost use Rattle.record.specs.declared.series.Series.{Series};
 ghost use Rattle.std.specs.Option.{option_map};
@@ -25,10 +27,7 @@ fn pair(a: u8, b: u8) -> u8
     ensures says { (n : ℕ) → n < 100 → digits 2 n ≡ a ∷ b ∷ [] → result ≡ n }
     ensures small { result < 100 }
 {
-    match two_digits(a, b) {
-        Some(n) => n,
-        None => 0,
-    }
+    two_digits(a, b).unwrap_or(0)
 }
 
 // The number that four digits write.

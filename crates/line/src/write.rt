@@ -4,7 +4,8 @@ ghost use Rattle.values.specs.Writing.{digits};
 ghost use Rattle.line.specs.Lines.{date_text, second_text, minute_text, or_blank, revision_sign, series_sign};
 ghost use Rattle.line.specs.Lines.{line as line_of};
 ghost use Rattle.line.specs.Places.{placed};
-ghost use Rattle.record.specs.Entries.{entry as entry_of, name, moment, minute_of};
+ghost use Rattle.instants.specs.Moments.{moment, minute_of};
+ghost use Rattle.record.specs.Entries.{entry as entry_of, name};
 ghost use Rattle.std.specs.Option.{option_map};
 
 use calendar::date::Date;
@@ -13,18 +14,8 @@ use instants::utc_time::UtcTime;
 use record::record::Record;
 use record::series::Series;
 use record::station::Station;
+use values::digits::digits;
 use values::write::value_text;
-
-fn four(n: u16) -> [u8; 4]
-    ensures { result ≡ digits 4 n }
-{
-    [
-        b'0' + (n / 10 / 10 / 10 % 10) as u8,
-        b'0' + (n / 10 / 10 % 10) as u8,
-        b'0' + (n / 10 % 10) as u8,
-        b'0' + (n % 10) as u8,
-    ]
-}
 
 fn put_bytes(out: &mut [u8], at: usize, bytes: &[u8])
     requires { at + length bytes.now ≤ length out.old }
@@ -36,32 +27,21 @@ fn put_bytes(out: &mut [u8], at: usize, bytes: &[u8])
 fn date_text(date: Date) -> [u8; 8]
     ensures { result ≡ date_text date }
 {
-    let [c, d, y, z] = four(date.year);
-    let Date { month, day, .. } = date;
-    [
-        c,
-        d,
-        y,
-        z,
-        b'0' + month / 10 % 10,
-        b'0' + month % 10,
-        b'0' + day / 10 % 10,
-        b'0' + day % 10,
-    ]
+    let Date { year, month, day } = date;
+    let [c, d, y, z] = digits::<4>(u32::from(year));
+    let [m, n] = digits::<2>(u32::from(month));
+    let [e, f] = digits::<2>(u32::from(day));
+    [c, d, y, z, m, n, e, f]
 }
 
 // hhnnss
 fn clock_text(second: u32) -> [u8; 6]
     ensures { result ≡ digits 2 (second / 3600) ++ (digits 2 (second / 60 % 60) ++ digits 2 (second % 60)) }
 {
-    [
-        b'0' + (second / 3600 / 10 % 10) as u8,
-        b'0' + (second / 3600 % 10) as u8,
-        b'0' + (second / 60 % 60 / 10 % 10) as u8,
-        b'0' + (second / 60 % 60 % 10) as u8,
-        b'0' + (second % 60 / 10 % 10) as u8,
-        b'0' + (second % 60 % 10) as u8,
-    ]
+    let [h, i] = digits::<2>(second / 3600);
+    let [m, n] = digits::<2>(second / 60 % 60);
+    let [s, t] = digits::<2>(second % 60);
+    [h, i, m, n, s, t]
 }
 
 fn second_text(time: UtcTime) -> [u8; 14]
@@ -77,34 +57,29 @@ fn minute_text(time: UtcMinute) -> [u8; 12]
     ensures { result ≡ minute_text (minute_of time) }
 {
     let UtcMinute { date, minute } = time;
-    let clock = [
-        b'0' + (minute / 60 / 10 % 10) as u8,
-        b'0' + (minute / 60 % 10) as u8,
-        b'0' + (minute % 60 / 10 % 10) as u8,
-        b'0' + (minute % 60 % 10) as u8,
-    ];
     let mut text = [b' '; 12];
     put_bytes(&mut text, 0, &date_text(date));
-    put_bytes(&mut text, 8, &clock);
+    put_bytes(&mut text, 8, &digits::<2>(u32::from(minute / 60)));
+    put_bytes(&mut text, 10, &digits::<2>(u32::from(minute % 60)));
     text
 }
 
 fn created_text(created: Option<UtcMinute>) -> [u8; 12]
     ensures { result ≡ or_blank 12 (option_map minute_text (option_map minute_of created)) }
 {
-    match created {
-        Some(time) => minute_text(time),
-        None => [b' '; 12],
-    }
+    created.map_or([b' '; 12], minute_text)
+}
+
+fn name_text(station: Station) -> [u8; 8]
+    ensures { result ≡ name station }
+{
+    station.text
 }
 
 fn source_text(source: Option<Station>) -> [u8; 8]
     ensures { result ≡ or_blank 8 (option_map name source) }
 {
-    match source {
-        Some(station) => station.text,
-        None => [b' '; 8],
-    }
+    source.map_or([b' '; 8], name_text)
 }
 
 fn revision_sign(revised: bool) -> u8
@@ -143,7 +118,7 @@ pub fn line_of(record: &Record) -> [u8; 80]
     put_bytes(&mut out, 9, &second_text(observed));
     put_bytes(&mut out, 24, &created_text(created));
     put_bytes(&mut out, 37, &parameter.code.signs);
-    put_bytes(&mut out, 45, &four(parameter.duration));
+    put_bytes(&mut out, 45, &digits::<4>(u32::from(parameter.duration)));
     put_bytes(&mut out, 50, &value_text(value));
     put_bytes(&mut out, 65, &[qualifier.letter]);
     put_bytes(&mut out, 67, &[revision_sign(revised)]);

@@ -1,3 +1,3 @@
-pub mod Rows
 pub mod Checks
+pub mod Rows
 pub mod Whole

@@ -3,19 +3,16 @@ use Rattle.std.proofs.Common.{◌≡◌, ℕ, zero, suc, Bool, true, false, cond
 use Rattle.std.proofs.lemmas.List.{get_or_default, get_or_append_left}
 use Rattle.std.proofs.lemmas.Bool.{cond-true, cond-false, and_parts, eqb-true, ne_eqb}
 use Rattle.std.proofs.lemmas.Bool.Decides.{nat_tests}
+use Rattle.std.proofs.lemmas.Option.{cond_some}
 use Rattle.quantity.specs.declared.element.Element.{Element}
 use Rattle.quantity.specs.Elements.{element_of}
 use Rattle.quantity.specs.Codes.{durations, is_duration, is_type, full_code, unless_z, completed, checked_code, code_of_element}
 use Rattle.quantity.specs.CodeLaws.{Full, Itself, Ends}
-use Rattle.quantity.proofs.Checks.{passed}
-
-apart : true ≡ false → ⊥
-apart e = let z : ◌≡◌ {A = ℕ} 0 1 = cc in omega arith
 
 full_of : (b : Bool) (o : Option Element) (cs full : List ℕ) → cond b (code_of_element o cs) None ≡ Some full → full_code full ≡ true
-full_of false o cs full h = let z : ◌≡◌ {A = ℕ} 0 1 = cc in absurd (omega arith)
-full_of true None cs full h = let z : ◌≡◌ {A = ℕ} 0 1 = cc in absurd (omega arith)
-full_of true (Some e) cs full h = let p = passed (full_code (completed e cs)) full (completed e cs) (sym h) in ap full_code p.1 ∙ p.0
+full_of false o cs full h = cc
+full_of true None cs full h = cc
+full_of true (Some e) cs full h = let p = cond_some (full_code (completed e cs)) (completed e cs) full h in ap full_code (sym p.1) ∙ p.0
 
 pub full : Full
 full cs f h = full_of (leb 2 (length cs) && leb (length cs) 7) (element_of (get_or cs 0 0) (get_or cs 1 0)) cs f h
@@ -36,10 +33,10 @@ unfolding durations
 no_z = refl
 
 duration_z : (d : ℕ) → is_duration d ≡ true → d ≡ 90 → ⊥
-duration_z d t e = apart (sym t ∙ ap is_duration e ∙ no_z)
+duration_z d t e = let q : true ≡ false = sym t ∙ ap is_duration e ∙ no_z in cc
 
 type_z : (t : ℕ) → is_type t ≡ true → t ≡ 90 → ⊥
-type_z t h e = apart (sym h ∙ ap is_type e)
+type_z t h e = let q : true ≡ false = sym h ∙ ap is_type e in cc
 
 kept : (e : Element) (cs : List ℕ) → length cs ≡ 7 → (get_or cs 2 0 ≡ 90 → ⊥) → (get_or cs 3 0 ≡ 90 → ⊥) → completed e cs ≡ cs
 kept e cs l d t =
@@ -52,7 +49,7 @@ kept e cs l d t =
     ∙ seven cs l
 
 itself_of : (o : Option Element) (cs : List ℕ) → is_some o ≡ true → length cs ≡ 7 → (get_or cs 2 0 ≡ 90 → ⊥) → (get_or cs 3 0 ≡ 90 → ⊥) → full_code cs ≡ true → code_of_element o cs ≡ Some cs
-itself_of None cs s l d t h = absurd (apart (sym s))
+itself_of None cs s l d t h = cc
 itself_of (Some e) cs s l d t h = ap checked_code (kept e cs l d t) ∙ cond-true _ _ _ h
 
 pub itself : Itself

@@ -1,5 +1,7 @@
 -- Parameter codes and duration numbers.
 use Rattle.std.specs.Prelude.{ℕ, ◌+◌, ◌/◌, Bool, false, cond, not, ◌&&◌, ◌||◌, List, [], ◌∷◌, length, is_some, Some, None, Option, ◌==◌, nat_le, nat_lt, slice_index, slice_index_or}
+use Rattle.std.specs.List.{find}
+use Rattle.std.specs.Option.{option_map}
 use Rattle.text.specs.Signs.{capital, sign}
 use Rattle.quantity.specs.declared.element.Element.{Element}
 use Rattle.quantity.specs.Elements.{element_of}
@@ -30,8 +32,7 @@ durations =
     []
 
 abbrev pub number_in : ℕ → List (ℕ × ℕ) → Option ℕ
-number_in letter [] = None
-number_in letter (d ∷ ds) = cond (letter == d.0) (Some d.1) (number_in letter ds)
+number_in letter ds = option_map (λ d. d.1) (find (λ d. d.0 == letter) ds)
 
 -- the number of a fixed duration
 abbrev pub duration_number : ℕ → Option ℕ

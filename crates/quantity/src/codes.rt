@@ -41,11 +41,7 @@ pub fn code_from(signs: [u8; 7]) -> Option<Code>
 fn sign_at(code: &[u8], place: usize) -> u8
     ensures { result ≡ slice_index_or code.now place 90 }
 {
-    if place < code.len() {
-        code[place]
-    } else {
-        b'Z'
-    }
+    code.get(place).copied().unwrap_or(b'Z')
 }
 
 fn unless_z(meant: u8, sign: u8) -> u8

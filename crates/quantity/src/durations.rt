@@ -1,11 +1,11 @@
 // The table of duration letters and their numbers, and the durations that a DV item gives.
 ghost use Rattle.std.specs.Prelude.{◌≡◌};
 ghost use Rattle.std.specs.Option.{option_map};
-ghost use Rattle.quantity.specs.Codes.{duration_number, number_in, is_duration, variable_of, variable_base};
+ghost use Rattle.quantity.specs.Codes.{durations, duration_number, is_duration, variable_of, variable_base};
 
 use crate::variable::Variable;
 
-const DURATIONS: [(u8, u16); 20] = [
+static DURATIONS: [(u8, u16); 20] = [
     (b'I', 0),
     (b'U', 1),
     (b'C', 15),
@@ -28,22 +28,17 @@ const DURATIONS: [(u8, u16); 20] = [
     (b'X', 5005),
 ];
 
-fn find_number(rows: &[(u8, u16)], letter: u8) -> Option<u16>
-    ensures { result ≡ number_in letter rows.now }
+fn table() -> &'static [(u8, u16)]
+    ensures { result.now ≡ durations }
 {
-    for row in rows {
-        if letter == row.0 {
-            return Some(row.1);
-        }
-    }
-    None
+    &DURATIONS
 }
 
 // The number of a fixed duration.
 pub fn duration_of(letter: u8) -> Option<u16>
     ensures { result ≡ duration_number letter }
 {
-    find_number(&DURATIONS, letter)
+    table().iter().find(|row| row.0 == letter).map(|row| row.1)
 }
 
 // A duration letter other than Z: V, or one with a fixed number.
@@ -53,6 +48,7 @@ pub fn is_duration(letter: u8) -> bool
     letter == b'V' || duration_of(letter).is_some()
 }
 
+// An Option and no TryFrom: nobody asks why a letter names no unit.
 fn variable_base(unit: u8) -> Option<u16>
     ensures { result ≡ variable_base unit }
 {
@@ -76,6 +72,6 @@ pub fn variable_of(unit: u8, two: u8) -> Option<Variable>
     }
     let base = variable_base(unit)?;
     Some(Variable {
-        number: base + two as u16,
+        number: base + u16::from(two),
     })
 }

@@ -1,9 +1,10 @@
 // The table of physical elements, and the search in it.
-ghost use Rattle.std.specs.Prelude.{◌≡◌, IfSome};
-ghost use Rattle.quantity.specs.Elements.{element_of, lookup, Fair};
+ghost use Rattle.std.specs.Prelude.{◌≡◌};
+ghost use Rattle.quantity.specs.Elements.{element_of, is_named, lookup};
 
 use crate::element::Element;
 
+// A const and no static, which cannot hold a type with an invariant.
 #[rattlefmt::skip]
 const ELEMENTS: [Element; 32] = [
     Element { first: b'T', second: b'A', numerator: 9, denominator: 5, offset: 320_000, duration: b'I' },
@@ -40,21 +41,23 @@ const ELEMENTS: [Element; 32] = [
     Element { first: b'R', second: b'I', numerator: 1, denominator: 1, offset: 0, duration: b'D' },
 ];
 
+fn is_named(element: &Element, first: u8, second: u8) -> bool
+    ensures { result ≡ is_named first second element.now }
+{
+    element.first == first && element.second == second
+}
+
 fn find_row(rows: &[Element], first: u8, second: u8) -> Option<Element>
     ensures { result ≡ lookup first second rows.now }
 {
-    for element in rows {
-        if element.first == first && element.second == second {
-            return Some(*element);
-        }
-    }
-    None
+    rows.iter()
+        .copied()
+        .find(|element| is_named(element, first, second))
 }
 
 // The element of two letters.
 pub fn element_of(first: u8, second: u8) -> Option<Element>
-    ensures value { result ≡ element_of first second }
-    ensures fair { IfSome result Fair }
+    ensures { result ≡ element_of first second }
 {
-    find_row(&ELEMENTS, first, second)
+    find_row(ELEMENTS.as_slice(), first, second)
 }

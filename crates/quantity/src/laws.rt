@@ -1,10 +1,8 @@
 // Laws of parameter codes.
 ghost use Rattle.quantity.specs.CodeLaws.{Full, Itself, Ends};
 
-pub fn code_laws() -> u8
+pub fn code_laws()
     ensures full { Full }
     ensures itself { Itself }
     ensures ends { Ends }
-{
-    0
-}
+{}

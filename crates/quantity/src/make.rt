@@ -1,4 +1,5 @@
 // Amounts, values and qualifiers from the numbers and letters that they hold.
+// They come in an Option and not by TryFrom, whose error would say no more than None.
 ghost use Rattle.std.specs.Prelude.{◌≡◌, if◌then◌else◌, Some, None};
 ghost use Rattle.quantity.specs.Amounts.{is_absent, holdable};
 ghost use Rattle.quantity.specs.Values.{value_of};
@@ -41,8 +42,8 @@ pub fn value_from(z: i64) -> Option<Value>
     ensures { option_map value_of result ≡ (if is_absent z then Some None else (if holdable z then Some (Some z) else None)) }
 {
     if z == -99_990_000 {
-        return Some(Value::Missing);
+        Some(Value::Missing)
+    } else {
+        Amount::new(z).map(Value::Known)
     }
-    let amount = Amount::new(z)?;
-    Some(Value::Known(amount))
 }

@@ -1,36 +1,20 @@
 -- Names in eight columns.
-use Rattle.std.proofs.Common.{◌≡◌, ℕ, zero, suc, ◌-◌, ◌≤◌, Bool, true, false, ◌&&◌, ◌⊎◌, List, [], ◌∷◌, ◌++◌, length, get_or, drop, replicate, refl, ap, ◌∙◌, inl, inr, arith, length-append}
+use Rattle.std.proofs.Common.{◌≡◌, ℕ, zero, suc, ◌-◌, ◌≤◌, Bool, true, false, cond, sym, ◌+◌, List, [], ◌∷◌, ◌++◌, length, get_or, drop, replicate, refl, ap, ◌∙◌, arith, length-append}
 use lib.ListN.{length-replicate}
-use Rattle.std.proofs.lemmas.Bool.{cond-true, cond-false, eq-eqb, ne_eqb, and_parts, and_from}
+use Rattle.std.proofs.lemmas.Bool.{cond-true, eq-eqb, and_parts, and_from}
 use Rattle.std.proofs.lemmas.List.{drop-replicate}
-use Rattle.std.proofs.lemmas.Bool.Decides.{nat_tests}
+use Rattle.std.specs.List.{prefix_len}
 use Rattle.text.specs.Signs.{sign}
 use Rattle.record.specs.Stations.{blanks, signs, signs_then_blanks, station_text}
 
--- what is yet to come, once blanks have begun and before
-abbrev pub rest : Bool → List ℕ → Bool
-rest true cs = blanks cs
-rest false cs = signs_then_blanks cs
+-- blanks stand behind the signs at the front
+behind_by : (b : Bool) (n c : ℕ) (cs : List ℕ) → cond b (blanks (drop n cs)) (blanks (c ∷ cs)) ≡ blanks (drop (cond b (1 + n) 0) (c ∷ cs))
+behind_by true n c cs = let s : 1 + n ≡ suc n = omega arith in ap (λ k. blanks (drop k (c ∷ cs))) (sym s)
+behind_by false n c cs = refl
 
-pub rest_blank : (ended : Bool) (c : ℕ) (cs : List ℕ) → c ≡ 32 → rest ended (c ∷ cs) ≡ rest true cs
-rest_blank true c cs e = ap (λ x. rest true (x ∷ cs)) e
-rest_blank false c cs e = ap (λ x. rest false (x ∷ cs)) e
-
-pub rest_sign : (ended : Bool) (c : ℕ) (cs : List ℕ) → ended ≡ false → sign c ≡ true → rest ended (c ∷ cs) ≡ rest ended cs
-rest_sign true c cs e t = absurd (grind (arith, nat_tests))
-rest_sign false c cs e t = cond-true _ _ _ t
-
-no_blank : (c : ℕ) (cs : List ℕ) → (c ≡ 32 → ⊥) → blanks (c ∷ cs) ≡ false
-no_blank c cs h = ap (λ b. b && blanks cs) (ne_eqb c 32 h)
-
-pub rest_other : (ended : Bool) (c : ℕ) (cs : List ℕ) → (c ≡ 32 → ⊥) → (ended ≡ true) ⊎ (sign c ≡ false) → rest ended (c ∷ cs) ≡ false
-rest_other true c cs h w = no_blank c cs h
-rest_other false c cs h (inl e) = absurd (grind (arith, nat_tests))
-rest_other false c cs h (inr e) = cond-false _ _ _ e ∙ no_blank c cs h
-
-pub rest_none : (ended : Bool) → rest ended [] ≡ true
-rest_none true = refl
-rest_none false = refl
+pub behind_signs : (cs : List ℕ) → signs_then_blanks cs ≡ blanks (drop (prefix_len sign cs) cs)
+behind_signs [] = refl
+behind_signs (c ∷ cs) = ap (λ b. cond (sign c) b (blanks (c ∷ cs))) (behind_signs cs) ∙ behind_by (sign c) (prefix_len sign cs) c cs
 
 blanks_are : (n : ℕ) → blanks (replicate n 32) ≡ true
 blanks_are zero = refl

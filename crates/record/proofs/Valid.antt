@@ -10,7 +10,8 @@ use Rattle.quantity.specs.Values.{value_of}
 use Rattle.quantity.specs.declared.value.Value.{Value}
 use Rattle.quantity.specs.declared.value.Value.TheVariants.{Missing, Known}
 use Rattle.record.specs.declared.station.Station.{Station}
-use Rattle.record.specs.Entries.{Entry, name, minute_of}
+use Rattle.instants.specs.Moments.{minute_of}
+use Rattle.record.specs.Entries.{Entry, name}
 use Rattle.record.specs.Stations.{station_text}
 use Rattle.record.specs.Validity.{Valid, RecordsValid}
 

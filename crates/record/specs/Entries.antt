@@ -2,8 +2,7 @@
 use Rattle.std.specs.Prelude.{ℕ, Bool, List, ℤ, Option}
 use Rattle.std.specs.Option.{option_map}
 use Rattle.calendar.specs.declared.date.Date.{Date}
-use Rattle.instants.specs.declared.utc_time.UtcTime.{UtcTime}
-use Rattle.instants.specs.declared.utc_minute.UtcMinute.{UtcMinute}
+use Rattle.instants.specs.Moments.{moment, minute_of}
 use Rattle.quantity.specs.Values.{value_of}
 use Rattle.record.specs.declared.record.Record.{Record}
 use Rattle.record.specs.declared.series.Series.{Series}
@@ -29,12 +28,6 @@ pub record Entry : Type 0 where
 
 abbrev pub name : Station → List ℕ
 name s = s.text
-
-abbrev pub moment : UtcTime → Date × ℕ
-moment t = (t.date, t.second)
-
-abbrev pub minute_of : UtcMinute → Date × ℕ
-minute_of t = (t.date, t.minute)
 
 abbrev pub entry : Record → Entry
 entry r = record {

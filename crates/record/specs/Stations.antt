@@ -1,10 +1,10 @@
 -- The names of stations and sources.
 use Rattle.std.specs.Prelude.{ℕ, ◌-◌, Bool, true, cond, ◌&&◌, List, [], ◌∷◌, ◌++◌, length, replicate, Some, None, Option, ◌==◌, nat_le, slice_index}
+use Rattle.std.specs.List.{list_all}
 use Rattle.text.specs.Signs.{sign}
 
 abbrev pub blanks : List ℕ → Bool
-blanks [] = true
-blanks (c ∷ cs) = c == 32 && blanks cs
+blanks = list_all (λ c. c == 32)
 
 -- signs, and then blanks
 abbrev pub signs_then_blanks : List ℕ → Bool
@@ -17,8 +17,7 @@ station_text cs = length cs == 8 && (sign (slice_index cs 2) && signs_then_blank
 
 -- nothing but signs
 abbrev pub signs : List ℕ → Bool
-signs [] = true
-signs (c ∷ cs) = sign c && signs cs
+signs = list_all sign
 
 -- the name that a word of three to eight signs is, in eight columns
 abbrev pub station_of : List ℕ → Option (List ℕ)

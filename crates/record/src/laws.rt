@@ -2,8 +2,6 @@
 ghost use Rattle.record.specs.Validity.{RecordsValid};
 
 // Every record has a valid entry.
-pub fn records_valid() -> u8
+pub fn records_valid()
     ensures { RecordsValid }
-{
-    0
-}
+{}

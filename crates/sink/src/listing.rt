@@ -1,4 +1,5 @@
 // A listing in bytes that the caller lent: one line of eighty bytes for each record.
+// It is no Vec, as the decoder has no heap: the caller lends the bytes, and finds behind the lines what lay there.
 ghost use Rattle.std.specs.Prelude.{◌*◌, ◌≤◌, length};
 ghost use Rattle.line.specs.Shown.{Shown};
 

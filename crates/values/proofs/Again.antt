@@ -10,11 +10,12 @@ use Rattle.text.specs.Signs.{capital}
 use Rattle.quantity.specs.declared.element.Element.{Element}
 use Rattle.quantity.specs.declared.units.Units.{Units}
 use Rattle.quantity.specs.declared.units.Units.TheVariants.{English}
+use Rattle.quantity.specs.Values.{stands_for}
 use Rattle.values.specs.Numbers.{amount_of}
 use Rattle.values.specs.Reading.{last_of, qualifier_of, number_of, value_in, qualified_by, amount_read, read_for}
 use Rattle.values.specs.Writing.{figure}
 use Rattle.values.specs.Laws.{Held, ReadsBack, ReadsAlone}
-use Rattle.values.proofs.Back.{Mark, figure-marks, some-figure, stands_for, trimmed, small, known, amount-figure}
+use Rattle.values.proofs.Back.{Mark, figure-marks, some-figure, trimmed, small, known, amount-figure}
 
 front : (cs ys : List ℕ) → AllByRecursion Mark cs → 0 < length cs → Mark (get_or (cs ++ ys) 0 0)
 front [] ys h some = absurd (omega arith)

@@ -1,24 +1,16 @@
 -- A value that is written is read back.
 use Rattle.std.proofs.Common.{◌≡◌, ℕ, suc, ◌+◌, ◌-◌, ◌/◌, ◌%◌, ◌^◌, ◌<◌, ◌≤◌, Bool, true, false, cond, not, eqb, ltb, List, [], ◌∷◌, ◌++◌, length, replicate, ℤ, pos, negsuc, nat_abs, Some, None, Option, sym, refl, ap, ◌∙◌, subst, arith, lit<, length-append}
-use lib.Signed.{lt_z}
 use lib.ListN.{length-replicate}
 use Rattle.std.specs.Option.{option_map}
 use Rattle.std.specs.List.{AllByRecursion}
 use Rattle.std.proofs.ByRecursion.{All-append, All-weaker}
 use Rattle.std.proofs.lemmas.Bool.{cond-true, cond-false, lt-ltb, ltb-true, ne_eqb, and_parts}
-use Rattle.std.proofs.lemmas.Bool.Decides.{nat_tests}
-use Rattle.quantity.specs.Amounts.{absent, is_absent, holdable}
+use Rattle.quantity.specs.Amounts.{is_absent, holdable}
+use Rattle.quantity.specs.Values.{stands_for}
 use Rattle.values.specs.Numbers.{numeral, ten_thousandths, behind_point, size_from, size_of, negated, amount_of}
 use Rattle.values.specs.Writing.{digits, plain, size_text, figure, pad_left, figure_of, written, trim_start}
 use Rattle.values.specs.Laws.{Held, Apart, Wide}
 use Rattle.values.proofs.Digit.{Digit, digits_are, digits_say, plain_are, plain_say, plain_long, plain-some, trim_start-pad, numeral-digits, before_digits, behind-digits}
-
-pub figured : (z : ℤ) (n : ℕ) → n ≡ nat_abs z → pad_left 14 (cond (lt_z z (pos 0)) (45 ∷ size_text n) (size_text n)) ≡ written (Some z)
-unfolding written
-figured (pos m) n e =
-    let t : lt_z (pos m) (pos 0) ≡ false = grind (arith, nat_tests) in
-    ap (pad_left 14) (cond-false _ _ _ t) ∙ ap (λ k. pad_left 14 (size_text k)) e
-figured (negsuc m) n e = ap (λ k. pad_left 14 (45 ∷ size_text k)) e
 
 -- a sign of a figure: a digit, a minus or a point
 abbrev pub Mark : ℕ → Type 0
@@ -67,11 +59,6 @@ some-figure (negsuc n) = omega arith
 trim_start-marks : (xs : List ℕ) → AllByRecursion Mark xs → trim_start xs ≡ xs
 trim_start-marks [] h = refl
 trim_start-marks (c ∷ cs) h = cond-false (eqb c 32) _ (c ∷ cs) (ne_eqb c 32 (λ e. omega arith))
-
--- the amount that stands for a value
-abbrev pub stands_for : Option ℤ → ℤ
-stands_for None = absent
-stands_for (Some z) = z
 
 pub figure_of_lem : (v : Option ℤ) → figure_of v ≡ figure (stands_for v)
 figure_of_lem None = refl

@@ -1,59 +1,61 @@
--- The turns of the loop that writes a value, from its last digit forward.
-use Rattle.std.proofs.Common.{◌≡◌, ℕ, zero, suc, ◌+◌, ◌-◌, ◌/◌, ◌%◌, ◌^◌, ◌<◌, ◌≤◌, List, [], ◌∷◌, ◌++◌, length, take, drop, set, replicate, sym, ap, ◌∙◌, append_assoc, pow-suc, arith, length-append}
-use Rattle.std.proofs.lemmas.List.{drop-set, take-set-le, take-append-drop, length-set, take-replicate, set_at, replicate_more, take-take, length-replicate}
-use Rattle.std.proofs.lemmas.Bool.{cond-true, cond-false, lt-ltb, le-ltb}
-use Rattle.values.specs.Writing.{plain, size_text, pad_left}
+-- The columns of an amount, with blanks in place of needless zeros.
+use Rattle.std.proofs.Common.{◌≡◌, ℕ, suc, ◌+◌, ◌-◌, ◌/◌, ◌%◌, ◌^◌, ◌<◌, ◌≤◌, List, [], ◌∷◌, ◌++◌, length, get_or, take, drop, set, replicate, ℤ, pos, negsuc, nat_abs, ◌<ℤ◌, ◌≤ℤ◌, Some, sym, ap, ◌∙◌, append_assoc, arith, length-append}
+use Rattle.std.specs.List.{prefix_len}
+use Rattle.std.proofs.lemmas.Int.{ints}
+use Rattle.std.proofs.lemmas.List.{set_at, replicate_more, length-replicate, length-take-le, length-drop, drop-append-le, take_at}
+use Rattle.values.specs.Writing.{digits, plain, size_text, pad_left, written}
+use Rattle.values.proofs.Zeros.{is_zero, zeros, few, long, plain_by}
 
-pub record Held (amount : ℕ) (text : List ℕ) (p n : ℕ) : Type 0 where
-  pub left : ℕ
-  pub at : p ≡ left + 2
-  pub room : left ≤ 7
-  pub below : n < 10 ^ suc left
-  pub long : length text ≡ 14
-  pub blank : take p text ≡ replicate p 32
-  pub rest : size_text amount ≡ plain (suc left) n ++ drop p text
+-- a blank, the digits and the point
+abbrev pub columns : ℕ → ℕ → List ℕ
+columns m r = 32 ∷ (digits 8 m ++ 46 ∷ digits 4 r)
 
--- one more column, from the right
-earlier : (text : List ℕ) (p x : ℕ) → 0 < p → p ≤ length text → take p text ≡ replicate p 32 → (take (p - 1) (set text (p - 1) x) ≡ replicate (p - 1) 32) × (drop (p - 1) (set text (p - 1) x) ≡ x ∷ drop p text)
-earlier text p x some h e =
-    let a : p - 1 < length text = omega arith in
-    let b : p - 1 + 1 ≡ p = omega arith in (
-      take-set-le (p - 1) text (p - 1) x (omega arith) ∙ sym (take-take (p - 1) p text (omega arith)) ∙ ap (take (p - 1)) e ∙ take-replicate (p - 1) p 32 (omega arith),
-      drop-set text (p - 1) x a ∙ ap (λ m. x ∷ drop m text) b,
-    )
+pub columns_are : (w f : List ℕ) (m r : ℕ) → w ≡ digits 8 m → f ≡ digits 4 r
+    → 32 ∷ get_or w 0 0 ∷ get_or w 1 0 ∷ get_or w 2 0 ∷ get_or w 3 0 ∷ get_or w 4 0 ∷ get_or w 5 0 ∷ get_or w 6 0 ∷ get_or w 7 0 ∷ 46 ∷ get_or f 0 0 ∷ get_or f 1 0 ∷ get_or f 2 0 ∷ get_or f 3 0 ∷ [] ≡ columns m r
+columns_are w f m r e g =
+    λ i. 32 ∷ get_or (e i) 0 0 ∷ get_or (e i) 1 0 ∷ get_or (e i) 2 0 ∷ get_or (e i) 3 0 ∷ get_or (e i) 4 0 ∷ get_or (e i) 5 0 ∷ get_or (e i) 6 0 ∷ get_or (e i) 7 0 ∷ 46 ∷ get_or (g i) 0 0 ∷ get_or (g i) 1 0 ∷ get_or (g i) 2 0 ∷ get_or (g i) 3 0 ∷ []
 
-again : (amount : ℕ) (text : List ℕ) (p n left : ℕ) → p ≡ left + 2 → left ≤ 7 → n < 10 ^ suc left → length text ≡ 14 → take p text ≡ replicate p 32 → size_text amount ≡ plain (suc left) n ++ drop p text → 10 ≤ n → Held amount (set text (p - 1) (48 + n % 10)) (p - 1) (n / 10)
-again amount text p n zero at room below long blank rest big = absurd (omega arith)
-again amount text p n (suc k) at room below long blank rest big =
-    let e = earlier text p (48 + n % 10) (omega arith) (omega arith) blank in
-    let ten = pow-suc 10 (suc k) in
-    record {
-      left = k;
-      at = omega arith;
-      room = omega arith;
-      below = omega arith;
-      long = length-set text (p - 1) (48 + n % 10) ∙ long;
-      blank = e.0;
-      rest = rest ∙ ap (λ l. l ++ drop p text) (cond-false _ _ _ (le-ltb n 10 big)) ∙ append_assoc (plain (suc k) (n / 10)) _ (drop p text) ∙ ap (λ l. plain (suc k) (n / 10) ++ l) (sym e.1);
-    }
+pub front_zeros : (w : List ℕ) (m : ℕ) → w ≡ digits 8 m → prefix_len is_zero (take 7 w) ≡ zeros 7 (m / 10)
+front_zeros w m e = ap (λ l. prefix_len is_zero (take 7 l)) e ∙ ap (prefix_len is_zero) (take_at (digits 7 (m / 10)) ((48 + m % 10) ∷ []) 7 (long 7 (m / 10)))
 
-pub held_again : (amount : ℕ) (text : List ℕ) (p n : ℕ) → Held amount text p n → 10 ≤ n → Held amount (set text (p - 1) (48 + n % 10)) (p - 1) (n / 10)
-held_again amount text p n h big = again amount text p n h.left h.at h.room h.below h.long h.blank h.rest big
+module _ (size z : ℕ) (small : size < 10 ^ 12) (is : z ≡ zeros 7 (size / 10000 / 10)) where
+  seven : z ≤ 7
+  seven = omega (arith, few 7 (size / 10000 / 10))
 
-pub held_last : (amount : ℕ) (text : List ℕ) (p n : ℕ) → Held amount text p n → n < 10 → set text (p - 1) (48 + n) ≡ replicate (p - 1) 32 ++ size_text amount
-held_last amount text p n h small =
-    let e = earlier text p (48 + n) (omega (arith, h.at)) (omega (arith, h.at, h.room, h.long)) h.blank in
-    sym (take-append-drop (p - 1) (set text (p - 1) (48 + n))) ∙ ap (λ l. l ++ drop (p - 1) (set text (p - 1) (48 + n))) e.0
-    ∙ ap (λ l. replicate (p - 1) 32 ++ l) (e.1 ∙ sym (h.rest ∙ ap (λ l. l ++ drop p text) (cond-true _ _ _ (lt-ltb n 10 small))))
+  kept : drop z (digits 8 (size / 10000)) ≡ plain 8 (size / 10000)
+  kept = ap (λ k. drop k (digits 8 (size / 10000))) is ∙ plain_by 7 (size / 10000) (omega arith)
 
-pub framed : (text : List ℕ) (q w : ℕ) (xs : List ℕ) → length text ≡ w → text ≡ replicate q 32 ++ xs → text ≡ pad_left w xs
-framed text q w xs long e =
-    let l = ap length e ∙ length-append (replicate q 32) xs in
-    let r : length (replicate {A = ℕ} q 32) ≡ q = length-replicate q 32 in
-    e ∙ ap (λ m. replicate m 32 ++ xs) (omega arith)
+  wide : length (size_text size) + z ≡ 13
+  wide =
+      let d = length-drop z (digits 8 (size / 10000)) in
+      let k = ap length kept in
+      omega (arith, seven, long 8 (size / 10000), long 4 (size % 10000), length-append (plain 8 (size / 10000)) (46 ∷ digits 4 (size % 10000)))
 
-pub signed_too : (text : List ℕ) (q x : ℕ) (xs : List ℕ) → 0 < q → text ≡ replicate q 32 ++ xs → set text (q - 1) x ≡ replicate (q - 1) 32 ++ (x ∷ xs)
-signed_too text q x xs some e =
-    let b : q ≡ q - 1 + 1 = omega arith in
-    let split : text ≡ replicate (q - 1) 32 ++ (32 ∷ xs) = e ∙ ap (λ m. replicate m 32 ++ xs) b ∙ ap (λ l. l ++ xs) (sym (replicate_more (q - 1) 32)) ∙ append_assoc (replicate (q - 1) 32) (32 ∷ []) xs in
-    ap (λ l. set l (q - 1) x) split ∙ set_at (replicate (q - 1) 32) 32 xs x (q - 1) (length-replicate (q - 1) 32)
+  blanked : (front cs : List ℕ) → front ≡ replicate (length (take (z + 1) cs)) 32 → cs ≡ columns (size / 10000) (size % 10000) → front ++ drop (z + 1) cs ≡ replicate (z + 1) 32 ++ size_text size
+  blanked front cs f g =
+      let s : z + 1 ≡ suc z = omega arith in
+      let all : length cs ≡ 14 = ap length g in
+      let part : front ≡ replicate (z + 1) 32 = f ∙ ap (λ n. replicate n 32) (length-take-le (z + 1) cs (omega (arith, seven))) in
+      let tail : List ℕ = 46 ∷ digits 4 (size % 10000) in
+      let behind : drop (z + 1) cs ≡ size_text size =
+      ap (drop (z + 1)) g ∙ ap (λ k. drop k (columns (size / 10000) (size % 10000))) s ∙ drop-append-le z (digits 8 (size / 10000)) tail (omega (arith, seven, long 8 (size / 10000))) ∙ ap (λ l. l ++ tail) kept in
+      λ i. part i ++ behind i
+
+  pub unsigned : (front cs : List ℕ) → front ≡ replicate (length (take (z + 1) cs)) 32 → cs ≡ columns (size / 10000) (size % 10000) → front ++ drop (z + 1) cs ≡ pad_left 14 (size_text size)
+  unsigned front cs f g = blanked front cs f g ∙ ap (λ n. replicate n 32 ++ size_text size) {y = 14 - length (size_text size)} (omega (arith, wide))
+
+  pub signed : (front cs : List ℕ) → front ≡ replicate (length (take (z + 1) cs)) 32 → cs ≡ columns (size / 10000) (size % 10000) → set (front ++ drop (z + 1) cs) z 45 ≡ pad_left 14 (45 ∷ size_text size)
+  signed front cs f g =
+      let split : replicate (z + 1) 32 ++ size_text size ≡ replicate z 32 ++ (32 ∷ size_text size) = ap (λ l. l ++ size_text size) (sym (replicate_more z 32)) ∙ append_assoc (replicate z 32) (32 ∷ []) (size_text size) in
+      ap (λ l. set l z 45) (blanked front cs f g ∙ split) ∙ set_at (replicate z 32) 32 (size_text size) 45 z (length-replicate z 32)
+      ∙ ap (λ n. replicate n 32 ++ (45 ∷ size_text size)) {y = 14 - length (45 ∷ size_text size)} (omega (arith, wide))
+
+pub below_zero : (z : ℤ) (n : ℕ) → n ≡ nat_abs z → z <ℤ pos 0 → pad_left 14 (45 ∷ size_text n) ≡ written (Some z)
+unfolding written
+below_zero (pos m) n e h = absurd (omega (arith, ints))
+below_zero (negsuc m) n e h = ap (λ k. pad_left 14 (45 ∷ size_text k)) e
+
+pub from_zero : (z : ℤ) (n : ℕ) → n ≡ nat_abs z → pos 0 ≤ℤ z → pad_left 14 (size_text n) ≡ written (Some z)
+unfolding written
+from_zero (pos m) n e h = ap (λ k. pad_left 14 (size_text k)) e
+from_zero (negsuc m) n e h = absurd (omega (arith, ints))

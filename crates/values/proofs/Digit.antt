@@ -1,7 +1,8 @@
 -- Digits, and what trimming and reading do to them.
-use Rattle.std.proofs.Common.{◌≡◌, ℕ, zero, suc, ◌+◌, ◌-◌, ◌*◌, ◌/◌, ◌%◌, ◌^◌, ◌<◌, ◌≤◌, true, ◌&&◌, ltb, leb, List, [], ◌∷◌, ◌++◌, length, replicate, Some, sym, refl, ap, ◌∙◌, mul_assoc, pow-suc, arith, length-append}
+use Rattle.std.proofs.Common.{◌≡◌, ℕ, zero, suc, ◌+◌, ◌-◌, ◌*◌, ◌/◌, ◌%◌, ◌^◌, ◌<◌, ◌≤◌, true, ◌&&◌, ltb, leb, List, [], ◌∷◌, ◌++◌, length, drop, set, replicate, Some, sym, refl, ap, ◌∙◌, append_assoc, mul_assoc, pow-suc, arith, length-append}
 use Rattle.std.specs.List.{AllByRecursion}
 use Rattle.std.proofs.ByRecursion.{All-push}
+use Rattle.std.proofs.lemmas.List.{drop-set}
 use Rattle.std.proofs.lemmas.Bool.{cond-true, cond-false, cond_both, ltb-true, ne_eqb}
 use Rattle.std.proofs.lemmas.Bool.Decides.{nat_tests}
 use Rattle.text.specs.Signs.{digit}
@@ -19,9 +20,16 @@ pub digits_are : (k n : ℕ) → AllByRecursion Digit (digits k n)
 digits_are zero n = tt
 digits_are (suc k) n = All-push Digit (digits k (n / 10)) (48 + n % 10) (digits_are k (n / 10)) (omega arith, omega arith)
 
-pub digits_long : (k n : ℕ) → length (digits k n) ≡ k
-digits_long zero n = refl
-digits_long (suc k) n = simp length-append (omega (arith, digits_long k (n / 10)))
+-- one digit more, from the last forward
+pub digits_more : (w place n : ℕ) (text : List ℕ) → place < w → length text ≡ w → digits (w - place) n ++ drop (w - place) text ≡ digits (w - (place + 1)) (n / 10) ++ drop (w - (place + 1)) (set text (w - 1 - place) (48 + n % 10))
+digits_more w place n text below long =
+    let k : ℕ = w - (place + 1) in
+    let up : w - place ≡ suc k = omega arith in
+    let at : w - 1 - place ≡ k = omega arith in
+    let next : suc k ≡ k + 1 = omega arith in
+    ap (λ m. digits m n ++ drop m text) up ∙ append_assoc (digits k (n / 10)) _ (drop (suc k) text)
+    ∙ ap (λ m. digits k (n / 10) ++ ((48 + n % 10) ∷ drop m text)) next ∙ ap (λ l. digits k (n / 10) ++ l) (sym (drop-set text k (48 + n % 10) (omega arith)))
+    ∙ ap (λ m. digits k (n / 10) ++ drop k (set text m (48 + n % 10))) (sym at)
 
 pub digits_say : (k m n : ℕ) → n < 10 ^ k → said m (digits k n) ≡ m * 10 ^ k + n
 digits_say zero m n h = omega arith

@@ -1,9 +1,9 @@
 pub mod Near
 pub mod Signs
 pub mod Turns
-pub mod Same
 pub mod Columns
 pub mod Digit
 pub mod Back
 pub mod Again
 pub mod Strict
+pub mod Zeros

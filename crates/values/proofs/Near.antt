@@ -2,7 +2,7 @@
 use Rattle.std.proofs.Common.{◌≡◌, ℕ, zero, suc, ◌+◌, ◌-◌, ◌*◌, ◌/◌, ◌%◌, ◌<◌, ◌≤◌, ltb, ℤ, pos, negsuc, ◌-ℤ◌, ◌*ℤ◌, neg_ℤ, nat_abs, sym, refl, ap, ◌∙◌, ⊎_elim, mod-lt, mul_assoc, mul_comm, add-mul, mul-zero, mul-suc, arith}
 use native.Mathlib.Nat.{div-add-mod, div-eq_of_lt-le}
 use Rattle.std.proofs.lemmas.Bool.{cond_both, ltb-true, ltb-false, cases_lt}
-use Rattle.values.specs.Conversion.{nearest, rounded, exact, off, Nearest, Rounds, RoundsOnly}
+use Rattle.values.specs.Conversion.{nearest, rounded, off, Nearest, Rounds, RoundsOnly}
 
 within : (den p : ℕ) → 0 < den → (2 * (den * nearest den p) ≤ 2 * p + den) × (2 * p < 2 * (den * nearest den p) + den)
 within den p some =
@@ -83,7 +83,7 @@ only_nearest den (negsuc p) (negsuc r) some h =
     ap (λ m. neg_ℤ (pos m)) (sym (only (suc p) den (suc r) some (omega (arith, h.near)) (strict (den * suc r) (suc p) den _ some e h.near h.tie)))
 
 pub rounds : Rounds
-rounds e a some = is_nearest e.denominator (exact e a) some
+rounds = is_nearest
 
 pub rounds_only : RoundsOnly
-rounds_only e a r some h = only_nearest e.denominator (exact e a) r some h
+rounds_only = only_nearest

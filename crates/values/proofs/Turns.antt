@@ -1,13 +1,13 @@
 -- The turns of the loops that read a number.
-use Rattle.std.proofs.Common.{◌≡◌, ℕ, zero, suc, ◌+◌, ◌-◌, ◌*◌, ◌^◌, ◌<◌, ◌≤◌, Bool, true, false, ◌&&◌, leb, List, [], ◌∷◌, ◌++◌, length, get_or, take, drop, pos, nat_abs, Some, None, sym, ap, ◌∙◌, append_assoc, append-nil, pow-suc, add-one, arith}
+use Rattle.std.proofs.Common.{◌≡◌, ℕ, zero, suc, ◌+◌, ◌-◌, ◌*◌, ◌^◌, ◌<◌, ◌≤◌, Bool, true, false, ◌&&◌, eqb, leb, List, [], ◌∷◌, length, get_or, take, drop, cond, not, ltb, ◌==◌, Some, None, sym, refl, ap, ◌∙◌, pow-suc, add-one, arith}
 use native.Mathlib.Nat.{pow-le-pow_right}
-use Rattle.std.specs.Option.{option_map}
-use Rattle.std.proofs.lemmas.List.{at_drop_more, at_drop_all, drop_more, take_more, take_all, drop-drop, drop_all, length-drop, nil_from_length}
-use Rattle.std.proofs.lemmas.Bool.{cond-true, cond-false, eq-eqb, ne_eqb}
+use Rattle.std.specs.List.{position_or_len, position}
+use Rattle.std.proofs.lemmas.List.{at_drop_more, at_drop_all, take_all, drop_all}
+use Rattle.std.proofs.lemmas.Bool.{cond-true, cond-false, ltb-true, ltb-false}
+use Rattle.std.proofs.lemmas.Option.{cond_some}
 use Rattle.std.proofs.lemmas.Bool.Decides.{nat_tests}
 use Rattle.text.specs.Signs.{digit}
-use Rattle.values.specs.Writing.{trim_start}
-use Rattle.values.specs.Numbers.{all_digits, said, numeral, before_point, behind_point, size_from, size_of, negated, amount_of}
+use Rattle.values.specs.Numbers.{all_digits, said, numeral, before_point, behind_point, size_from, size_of}
 
 pub longer : (n d i : ℕ) → n < 10 ^ i → d < 10 → n * 10 + d < 10 ^ (i + 1)
 longer n d i h l = let p = pow-suc 10 i in rw add-one (omega arith)
@@ -27,32 +27,12 @@ module _ (s : List ℕ) (i : ℕ) (inside : i < length s) where
       let f : all_digits s ≡ false = sym inv ∙ at_drop_more all_digits s i 0 inside ∙ ap (λ b. b && all_digits (drop (i + 1) s)) t in
       sym (cond-false _ _ _ (ap (λ b. b && leb (length s) most) f))
 
-  pub point_here : take i s ++ before_point (drop i s) ≡ before_point s → get_or s i 0 ≡ 46 → take i s ≡ before_point s
-  point_here inv e = sym (append-nil (take i s)) ∙ ap (λ l. take i s ++ l) (sym (at_drop_more before_point s i 0 inside ∙ cond-true _ _ _ (eq-eqb _ 46 e))) ∙ inv
-
-  pub point_behind : behind_point (drop i s) ≡ behind_point s → get_or s i 0 ≡ 46 → drop (i + 1) s ≡ behind_point s
-  point_behind inv e = sym (at_drop_more behind_point s i 0 inside ∙ cond-true _ _ _ (eq-eqb _ 46 e)) ∙ inv
-
-  pub before_more : take i s ++ before_point (drop i s) ≡ before_point s → (get_or s i 0 ≡ 46 → ⊥) → take (i + 1) s ++ before_point (drop (i + 1) s) ≡ before_point s
-  before_more inv e =
-      ap (λ l. l ++ before_point (drop (i + 1) s)) (take_more s i 0 inside) ∙ append_assoc (take i s) (get_or s i 0 ∷ []) (before_point (drop (i + 1) s))
-      ∙ ap (λ l. take i s ++ l) (sym (at_drop_more before_point s i 0 inside ∙ cond-false _ _ _ (ne_eqb _ 46 e))) ∙ inv
-
-  pub behind_more : behind_point (drop i s) ≡ behind_point s → (get_or s i 0 ≡ 46 → ⊥) → behind_point (drop (i + 1) s) ≡ behind_point s
-  behind_more inv e = sym (at_drop_more behind_point s i 0 inside ∙ cond-false _ _ _ (ne_eqb _ 46 e)) ∙ inv
-
 module _ (s : List ℕ) (i : ℕ) (past : length s ≤ i) where
   pub numeral_all : (n most : ℕ) → length s ≤ most → all_digits (drop i s) ≡ all_digits s → said n (drop i s) ≡ said 0 s → Some n ≡ numeral most s
   numeral_all n most short inv say =
       let a : all_digits s ≡ true = sym inv ∙ at_drop_all all_digits s i past in
       let b : leb (length s) most ≡ true = grind (arith, nat_tests) in
       ap Some (sym (at_drop_all (said n) s i past) ∙ say) ∙ sym (cond-true _ _ _ (ap (λ t. t && leb (length s) most) a ∙ b))
-
-  pub before_all : take i s ++ before_point (drop i s) ≡ before_point s → s ≡ before_point s
-  before_all inv = sym (take_all i s past) ∙ sym (append-nil (take i s)) ∙ ap (λ l. take i s ++ l) (sym (at_drop_all before_point s i past)) ∙ inv
-
-  pub behind_all : behind_point (drop i s) ≡ behind_point s → [] ≡ behind_point s
-  behind_all inv = sym (at_drop_all behind_point s i past) ∙ inv
 
 pub part_size : (n k : ℕ) → n < 10 ^ k → k ≤ 4 → n * 10 ^ (4 - k) < 10000
 part_size n zero h l = omega arith
@@ -62,40 +42,44 @@ part_size n (suc (suc (suc zero))) h l = omega arith
 part_size n (suc (suc (suc (suc zero)))) h l = omega arith
 part_size n (suc (suc (suc (suc (suc k))))) h l = absurd (omega arith)
 
-module _ (s whole rest : List ℕ) (p : ℕ) (front : whole ≡ take p s) (back : rest ≡ drop p s) (before : take p s ≡ before_point s) (behind : drop (p + 1) s ≡ behind_point s) where
-  after_point : drop 1 rest ≡ behind_point s
-  after_point = ap (drop 1) back ∙ drop-drop 1 p s ∙ behind
+-- the first point, by its place
+abbrev pub is_point : ℕ → Bool
+is_point c = c == 46
 
-  pub no_point : length rest < 1 → size_from whole rest ≡ size_of s
-  no_point h =
-      let e : rest ≡ [] = nil_from_length rest (omega arith) in
-      let f : rest ≡ behind_point s = e ∙ sym (ap (drop 1) e) ∙ after_point in
-      ap (λ w. size_from w rest) (front ∙ before) ∙ ap (size_from (before_point s)) f
+before_by : (b : Bool) (n c : ℕ) (cs : List ℕ) → take (cond (not b) (1 + n) 0) (c ∷ cs) ≡ cond b [] (c ∷ take n cs)
+before_by true n c cs = refl
+before_by false n c cs = let s : 1 + n ≡ suc n = omega arith in ap (λ k. take k (c ∷ cs)) s
 
-  pub one_point : size_from whole (take (length rest - 1) (drop 1 rest)) ≡ size_of s
-  one_point =
-      let l : length (drop 1 rest) ≡ length rest - 1 = length-drop 1 rest in
-      let f : take (length rest - 1) (drop 1 rest) ≡ behind_point s = take_all (length rest - 1) (drop 1 rest) (omega arith) ∙ after_point in
-      ap (λ w. size_from w (take (length rest - 1) (drop 1 rest))) (front ∙ before) ∙ ap (size_from (before_point s)) f
+before : (s : List ℕ) → take (position_or_len is_point s) s ≡ before_point s
+before [] = refl
+before (c ∷ cs) = before_by (eqb c 46) (position_or_len is_point cs) c cs ∙ ap (λ l. cond (eqb c 46) [] (c ∷ l)) (before cs)
 
-pub minus : (s : List ℕ) → get_or s 0 0 ≡ 45 → option_map negated (size_of (take (length s - 1) (drop 1 s))) ≡ amount_of s
-minus [] e = absurd (omega arith)
-minus (c ∷ cs) e = ap (λ l. option_map negated (size_of l)) (take_all (length (c ∷ cs) - 1) cs (omega arith)) ∙ ap (λ d. amount_of (d ∷ cs)) (sym e)
+behind_by : (b : Bool) (n c : ℕ) (cs : List ℕ) → drop (cond (not b) (1 + n) 0 + 1) (c ∷ cs) ≡ cond b cs (drop (n + 1) cs)
+behind_by true n c cs = refl
+behind_by false n c cs = let s : 1 + n + 1 ≡ suc (n + 1) = omega arith in ap (λ k. drop k (c ∷ cs)) s
 
-pub plus : (s : List ℕ) → get_or s 0 0 ≡ 43 → option_map pos (size_of (take (length s - 1) (drop 1 s))) ≡ amount_of s
-plus [] e = absurd (omega arith)
-plus (c ∷ cs) e = ap (λ l. option_map pos (size_of l)) (take_all (length (c ∷ cs) - 1) cs (omega arith)) ∙ ap (λ d. amount_of (d ∷ cs)) (sym e)
+behind : (s : List ℕ) → drop (position_or_len is_point s + 1) s ≡ behind_point s
+behind [] = drop_all 1 [] (omega arith)
+behind (c ∷ cs) = behind_by (eqb c 46) (position_or_len is_point cs) c cs ∙ ap (λ l. cond (eqb c 46) cs l) (behind cs)
 
-pub negated_small : (n : ℕ) → n < 10 ^ 12 → nat_abs (negated n) < 10 ^ 12
-negated_small zero h = h
-negated_small (suc n) h = h
+pub record Parted (s : List ℕ) (place : ℕ) : Type 0 where
+  pub within : place < length s
+  pub front : take place s ≡ before_point s
+  pub back : drop (place + 1) s ≡ behind_point s
 
-module _ (s : List ℕ) (i : ℕ) where
-  pub start_more : i < length s → get_or s i 0 ≡ 32 → trim_start (drop i s) ≡ trim_start s → trim_start (drop (i + 1) s) ≡ trim_start s
-  start_more h e inv = sym (at_drop_more trim_start s i 0 h ∙ cond-true _ _ _ (eq-eqb _ 32 e)) ∙ inv
+pub parted : (s : List ℕ) (place : ℕ) → Some place ≡ position is_point s → Parted s place
+parted s place e =
+    let p = cond_some (ltb (position_or_len is_point s) (length s)) (position_or_len is_point s) place (sym e) in
+    let within : place < length s = omega (arith, ltb-true _ _ p.0, p.1) in
+    record { within = within; front = ap (λ k. take k s) (sym p.1) ∙ before s; back = ap (λ k. drop (k + 1) s) (sym p.1) ∙ behind s }
 
-  pub start_stop : i < length s → (get_or s i 0 ≡ 32 → ⊥) → trim_start (drop i s) ≡ trim_start s → drop i s ≡ trim_start s
-  start_stop h e inv = drop_more s i 0 h ∙ sym (at_drop_more trim_start s i 0 h ∙ cond-false _ _ _ (ne_eqb _ 32 e)) ∙ inv
+no_place : (b : Bool) (n : ℕ) → None ≡ cond b (Some n) None → b ≡ false
+no_place true n e = cc
+no_place false n e = refl
 
-  pub start_all : length s ≤ i → trim_start (drop i s) ≡ trim_start s → drop i s ≡ trim_start s
-  start_all h inv = drop_all i s h ∙ sym (at_drop_all trim_start s i h) ∙ inv
+pub whole : (s : List ℕ) → None ≡ position is_point s → size_from s [] ≡ size_of s
+whole s e =
+    let past = ltb-false _ _ (no_place (ltb (position_or_len is_point s) (length s)) (position_or_len is_point s) e) in
+    let f : s ≡ before_point s = sym (take_all (position_or_len is_point s) s past) ∙ before s in
+    let b : [] ≡ behind_point s = sym (drop_all (position_or_len is_point s + 1) s (omega arith)) ∙ behind s in
+    ap (λ l. size_from l []) f ∙ ap (size_from (before_point s)) b

@@ -27,10 +27,10 @@ pub record Nearest (den : ℕ) (p r : ℤ) : Type 0 where
   pub near : 2 * off den p r ≤ den
   pub tie : 2 * off den p r ≡ den → unsigned_abs p < den * unsigned_abs r
 
--- a converted amount is the nearest ten-thousandth
+-- a fraction p / den rounded is the nearest whole number to it; a converted amount is the exact one, rounded so
 abbrev pub Rounds : Type 0
-Rounds = (e : Element) (a : ℤ) → 0 < e.denominator → Nearest e.denominator (exact e a) (converted e a)
+Rounds = (den : ℕ) (p : ℤ) → 0 < den → Nearest den p (rounded den p)
 
 -- and it is the only one
 abbrev pub RoundsOnly : Type 0
-RoundsOnly = (e : Element) (a r : ℤ) → 0 < e.denominator → Nearest e.denominator (exact e a) r → r ≡ converted e a
+RoundsOnly = (den : ℕ) (p r : ℤ) → 0 < den → Nearest den p r → r ≡ rounded den p

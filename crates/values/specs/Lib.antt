@@ -1,4 +1,5 @@
 pub mod Conversion
+pub mod Faults
 pub mod Numbers
 pub mod Reading
 pub mod Writing

@@ -3,24 +3,18 @@ ghost use Rattle.values.specs.Conversion.{Rounds, RoundsOnly};
 ghost use Rattle.values.specs.Examples.{Examples};
 ghost use Rattle.values.specs.Laws.{ReadsBack, ReadsAlone, Apart, Wide};
 
-pub fn conversion_laws() -> u8
+pub fn conversion_laws()
     ensures nearest { Rounds }
     ensures only { RoundsOnly }
-{
-    0
-}
+{}
 
-pub fn writing_laws() -> u8
+pub fn writing_laws()
     ensures back { ReadsBack }
     ensures alone { ReadsAlone }
     ensures apart { Apart }
     ensures wide { Wide }
-{
-    0
-}
+{}
 
-pub fn value_examples() -> u8
+pub fn value_examples()
     ensures { Examples }
-{
-    0
-}
+{}

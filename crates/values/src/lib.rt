@@ -3,6 +3,8 @@
 
 pub mod column;
 mod convert;
+pub mod digits;
+mod faults;
 pub mod laws;
 mod number;
 pub mod read;

@@ -8,7 +8,7 @@ pub struct Quantity {
     pub qualifier: Qualifier,
 }
 
-#[derive(Clone, Copy, PartialEq, Eq)]
+#[derive(Clone, Copy, Debug, PartialEq, Eq)]
 pub enum ValueFault {
     // the value breaks its rule
     Malformed,

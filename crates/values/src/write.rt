@@ -1,33 +1,34 @@
 // Values as records show them: fourteen columns with four decimals.
-ghost use Rattle.std.specs.Prelude.{◌≡◌, ◌^◌, ◌<◌, ◌∷◌, if◌then◌else◌};
+ghost use Rattle.std.specs.Prelude.{◌≡◌, ◌≤◌, length, Some, ◌==◌};
+ghost use Rattle.std.specs.List.{prefix_len};
 ghost use Rattle.quantity.specs.Values.{value_of};
-ghost use Rattle.values.specs.Writing.{size_text, pad_left, written};
+ghost use Rattle.values.specs.Writing.{written};
 
+use crate::digits::digits;
+use quantity::amount::Amount;
 use quantity::value::Value;
 
-// The text of a size in ten-thousandths, from its last digit forward.
-fn figure_text(size: u64, negative: bool) -> [u8; 14]
-    requires { size < 10 ^ 12 }
-    ensures { result ≡ pad_left 14 (if negative then 45 ∷ size_text size else size_text size) }
+fn zeros_at_front(digits: &[u8]) -> usize
+    ensures value { result ≡ prefix_len (λ c. c == 48) digits.now }
+    ensures within { result ≤ length digits.now }
 {
-    let mut text = [b' '; 14];
-    let part = (size % 10_000) as u16;
-    text[13] = b'0' + (part % 10) as u8;
-    text[12] = b'0' + (part / 10 % 10) as u8;
-    text[11] = b'0' + (part / 10 / 10 % 10) as u8;
-    text[10] = b'0' + (part / 10 / 10 / 10 % 10) as u8;
-    text[9] = b'.';
-    let mut n = size / 10_000;
-    let mut p = 9;
-    while n >= 10 {
-        p -= 1;
-        text[p] = b'0' + (n % 10) as u8;
-        n /= 10;
-    }
-    p -= 1;
-    text[p] = b'0' + n as u8;
-    if negative {
-        text[p - 1] = b'-';
+    digits.iter().take_while(|b| **b == b'0').count()
+}
+
+// The columns of an amount: blanks in place of needless zeros, and the sign on the last of them.
+fn amount_text(amount: Amount) -> [u8; 14]
+    ensures { result ≡ written (Some amount.tenthousandths) }
+{
+    let tenthousandths = amount.tenthousandths;
+    let size = tenthousandths.unsigned_abs();
+    let whole = digits::<8>((size / 10_000) as u32);
+    let zeros = zeros_at_front(&whole[..7]);
+    let [a, b, c, d, e, f, g, h] = whole;
+    let [i, j, k, l] = digits::<4>((size % 10_000) as u32);
+    let mut text = [b' ', a, b, c, d, e, f, g, h, b'.', i, j, k, l];
+    text[..zeros + 1].fill(b' ');
+    if tenthousandths < 0 {
+        text[zeros] = b'-';
     }
     text
 }
@@ -38,9 +39,6 @@ pub fn value_text(value: Value) -> [u8; 14]
 {
     match value {
         Value::Missing => *b"    -9999.0000",
-        Value::Known(amount) => {
-            let z = amount.tenthousandths;
-            figure_text(z.unsigned_abs(), z < 0)
-        }
+        Value::Known(amount) => amount_text(amount),
     }
 }

@@ -9,7 +9,6 @@ use quantity::variable::Variable;
 use std::io;
 use std::io::Stdout;
 use values::read::read_value;
-use values::reading::ValueFault;
 use values::write::value_text;
 
 fn show_code(out: Stdout, letters: &[u8], variable: Option<Variable>) -> io::Result<()> {
@@ -34,10 +33,7 @@ fn show_value(out: Stdout, letters: &[u8], units: Units, value: &[u8]) -> io::Re
             out.write_all(&columns)?;
             out.write_all(&[b' ', quantity.qualifier.letter, b'\n'])
         }
-        Err(fault) => match fault {
-            ValueFault::Malformed => println!(out; "malformed"),
-            ValueFault::TooLarge => println!(out; "too large"),
-        },
+        Err(fault) => println!(out; "{fault}"),
     }
 }
 

@@ -1,8 +1,10 @@
 // Names from words, and from columns.
-ghost use Rattle.std.specs.Prelude.{◌≡◌, if◌then◌else◌, Some, None};
+ghost use Rattle.std.specs.Prelude.{◌≡◌, ◌≤◌, length, if◌then◌else◌, Some, None};
 ghost use Rattle.record.specs.Entries.{name};
-ghost use Rattle.record.specs.Stations.{signs, signs_then_blanks, station_of, station_text};
+ghost use Rattle.record.specs.Stations.{blanks, signs, signs_then_blanks, station_of, station_text};
 ghost use Rattle.std.specs.Option.{option_map};
+ghost use Rattle.std.specs.List.{prefix_len};
+ghost use Rattle.text.specs.Signs.{sign};
 
 use super::Station;
 use text::is_sign;
@@ -35,24 +37,24 @@ impl Station {
 fn all_signs(word: &[u8]) -> bool
     ensures { result ≡ signs word.now }
 {
-    for b in word {
-        if !is_sign(*b) {
-            return false;
-        }
-    }
-    true
+    word.iter().all(|b| is_sign(*b))
+}
+
+fn all_blanks(text: &[u8]) -> bool
+    ensures { result ≡ blanks text.now }
+{
+    text.iter().all(|b| *b == b' ')
+}
+
+fn signs_at_front(text: &[u8]) -> usize
+    ensures value { result ≡ prefix_len sign text.now }
+    ensures within { result ≤ length text.now }
+{
+    text.iter().take_while(|b| is_sign(**b)).count()
 }
 
 fn signs_then_blanks(text: &[u8]) -> bool
     ensures { result ≡ signs_then_blanks text.now }
 {
-    let mut ended = false;
-    for b in text {
-        if *b == b' ' {
-            ended = true;
-        } else if ended || !is_sign(*b) {
-            return false;
-        }
-    }
-    true
+    all_blanks(&text[signs_at_front(text)..])
 }

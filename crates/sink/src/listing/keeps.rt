@@ -1,5 +1,5 @@
 // The listing as a sink.
-ghost use Rattle.std.specs.Prelude.{◌≡◌, ◌/◌, [], length};
+ghost use Rattle.std.specs.Prelude.{◌≡◌, ◌*◌, ◌/◌, [], length};
 ghost use Rattle.line.specs.Lines.{line};
 ghost use Rattle.sink.specs.Listings.{Longer, listed, listing_valid, longer_ties};
 ghost use Rattle.std.specs.List.{flat_map};
@@ -25,7 +25,14 @@ impl<'a> Listing<'a> {
     pub fn lines(&self) -> &[u8]
         ensures { result.now ≡ flat_map line (listed self.now).entries }
     {
-        &self.bytes[0..80 * self.count]
+        &self.bytes[..self.written()]
+    }
+
+    // How many bytes the lines take.
+    fn written(&self) -> usize
+        ensures { result ≡ 80 * self.now.count }
+    {
+        80 * self.count
     }
 }
 
@@ -39,14 +46,11 @@ impl<'a> Sink for Listing<'a> {
     ghost ties = { longer_ties };
 
     fn put(&mut self, record: Record) -> Result<(), Full> {
-        let at = 80 * self.count;
+        let at = self.written();
         if self.bytes.len() - at < 80 {
             return Err(Full);
         }
-        let text = line_of(&record);
-        for (i, b) in text.iter().enumerate() {
-            self.bytes[at + i] = *b;
-        }
+        self.bytes[at..at + 80].copy_from_slice(&line_of(&record));
         self.count += 1;
         Ok(())
     }
@@ -56,7 +60,7 @@ impl<'a> Sink for Listing<'a> {
     }
 
     fn room(&self) -> usize {
-        (self.bytes.len() - 80 * self.count) / 80
+        (self.bytes.len() - self.written()) / 80
     }
 
     fn read_back(&self, place: usize) -> Option<Record> {

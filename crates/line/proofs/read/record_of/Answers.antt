@@ -2,7 +2,8 @@ use Rattle.std.proofs.Common.{length, sym, ap, ◌∙◌}
 use Rattle.std.proofs.lemmas.Slice.Eq.{slice_eq-Decides}
 use Rattle.line.specs.Lines.{line}
 use Rattle.line.proofs.Cut.{line_long}
-use Rattle.line.proofs.Fields.{some_same, both_ways}
+use Rattle.std.proofs.lemmas.Bool.{both_ways}
+use Rattle.line.proofs.Fields.{some_same}
 use Rattle.line.proofs.read.record_of.Goals as goal
 use Rattle.std.proofs.lemmas.Bool.Decides.{Decides-eqb}
 
@@ -16,4 +17,4 @@ pub returns-else-eq : goal.returns-else-eq
 returns-else-eq c e v h =
     let same = some_same (c.in_ok-record.ensures e v h) in
     let equal = (slice_eq-Decides Decides-eqb _ _ _ c.eq.ensures).1 (sym h ∙ ap line (sym same) ∙ sym (c.as_slice.ensures ∙ c.line_of.ensures)) in
-    both_ways c.eq.result equal c.if-eq.false
+    both_ways c.eq.result c.if-eq.false equal

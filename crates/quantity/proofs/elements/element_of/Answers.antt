@@ -1,8 +1,8 @@
-use Rattle.std.proofs.Common.{IfSome, sym, subst}
-use Rattle.quantity.specs.Elements.{elements, Fair}
-use Rattle.quantity.proofs.Rows.{table_fair}
+use Rattle.std.proofs.Common.{refl, ap, ◌∙◌}
+use Rattle.quantity.specs.Elements.{elements, lookup}
+use Rattle.quantity.proofs.Rows.{same_rows}
 use Rattle.quantity.proofs.elements.element_of.Goals as goal
 
 pub returns : goal.returns
 unfolding elements
-returns c = record { value = c.find_row.ensures; fair = subst (λ o. IfSome o Fair) (sym c.find_row.ensures) (table_fair c.args.first c.args.second) }
+returns c = c.find_row.ensures ∙ ap (lookup c.args.first c.args.second) {x = c.as_slice.result.now} (c.as_slice.ensures ∙ same_rows _ elements refl)

@@ -1,16 +1,14 @@
-use Rattle.std.proofs.Common.{◌<◌, length, ◌∙◌, rules}
-use Rattle.values.proofs.Turns.{no_point, one_point}
+use Rattle.std.proofs.Common.{take, ◌+◌, ap, ◌∙◌}
+use Rattle.std.proofs.lemmas.List.{take_rest}
+use Rattle.values.specs.Numbers.{behind_point, size_from}
+use Rattle.values.proofs.Turns.{parted, whole}
 use Rattle.values.proofs.number.size_of.Goals as goal
 
-pub returns-in-empty : goal.returns-in-empty
-returns-in-empty c =
-    let p = c.point_at.ensures in
-    let h = c.split_at.ensures in
-    let none : length c.split_at.result.1.now < 1 = search rules in
-    record { value = c.size_from.ensures.value ∙ no_point c.args.number.now _ _ c.point_at.result h.front h.back p.before p.behind none; small = c.size_from.ensures.small }
+pub returns-in-Some-clause-value : goal.returns-in-Some-clause-value
+returns-in-Some-clause-value c =
+    let s = c.args.number.now in
+    let p = parted s c.in-Some.place c.in-Some.ensures in
+    c.size_from.ensures.value ∙ ap (size_from (take c.in-Some.place s)) (take_rest s (c.in-Some.place + 1) ∙ p.back) ∙ ap (λ l. size_from l (behind_point s)) p.front
 
-pub returns-in-len1-up : goal.returns-in-len1-up
-returns-in-len1-up c =
-    let p = c.point_at.ensures in
-    let h = c.split_at.ensures in
-    record { value = c.size_from-in-len1-up.ensures.value ∙ one_point c.args.number.now _ _ c.point_at.result h.front h.back p.before p.behind; small = c.size_from-in-len1-up.ensures.small }
+pub returns-in-None-clause-value : goal.returns-in-None-clause-value
+returns-in-None-clause-value c = c.size_from-in-None.ensures.value ∙ whole c.args.number.now c.in-None.ensures
