@@ -1,32 +1,20 @@
 -- The first word, as a relation. Assumes nothing.
-use Rattle.std.proofs.Common.{◌≡◌, ℕ, ◌+◌, ◌<◌, ◌≤◌, Bool, true, false, List, [], ◌∷◌, ◌++◌, length, get_or, take, drop, Some, None, sym, refl, ap, ◌∙◌, subst, ⊎_elim, arith, MatchOption}
+use Rattle.std.proofs.Common.{◌≡◌, ℕ, ◌<◌, ◌≤◌, true, false, List, [], ◌∷◌, ◌++◌, length, get_or, take, drop, Some, None, sym, refl, ap, ◌∙◌, subst, ⊎_elim, arith, MatchOption}
 use Rattle.items.proofs.Ends.{blank_reads}
 use Rattle.items.proofs.Parting.{Passes, all_leading, marks-drop, marks-take, no_leading}
 use Rattle.items.proofs.Scan.{length-marks, step}
 use Rattle.items.proofs.Words.{ink_outside, word_begins}
-use Rattle.items.specs.declared.mark.Mark.{Mark}
 use Rattle.items.specs.declared.mark.Mark.TheVariants.{Text}
 use Rattle.items.specs.declared.mark.Run.TheVariants.{Blanks, Word}
 use Rattle.items.specs.Items.{is_blank}
 use Rattle.items.specs.Marks.{after, mark_of, marks, passes}
 use Rattle.items.specs.Parting.{Reads, WordFound, WordsFound, leaves}
 use Rattle.items.specs.Words.{lead_of, word_len}
-use Rattle.std.proofs.lemmas.List.{drop_more, length-take-le, take-append-drop}
-use Rattle.std.proofs.lemmas.List.Sums.{prefix_len-le-length}
+use Rattle.std.proofs.lemmas.List.{length-take-le, take-append-drop}
+use Rattle.std.proofs.lemmas.List.Sums.{prefix_len-le-length, prefix_len_stops}
 use Rattle.std.proofs.lemmas.Bool.{cases_Bool, cond-false, cond-true, eqb-false}
 use Rattle.std.proofs.lemmas.Bool.Decides.{nat_tests}
 use Rattle.std.specs.List.{prefix_len}
-
--- a run stops at what does not pass
-stopped : (p : Mark → Bool) (ms : List Mark) (n : ℕ) → prefix_len p ms ≡ n → n < length ms → p (get_or ms n Text) ≡ false
-stopped p ms n e lt =
-    ⊎_elim
-    (λ is.
-    let none : prefix_len p (drop n ms) ≡ 0 = subst (λ k. prefix_len p (drop k ms) ≡ 0) e (no_leading p ms) in
-    let one : prefix_len p (drop n ms) ≡ 1 + prefix_len p (drop (n + 1) ms) = ap (prefix_len p) (drop_more ms n Text lt) ∙ cond-true _ _ _ is in
-    absurd (omega arith))
-    (λ is. is)
-    (cases_Bool (p (get_or ms n Text)))
 
 no_colon : (b : ℕ) → passes Word (mark_of false b) ≡ true → after false b ≡ false
 no_colon b is = grind (arith, nat_tests)
@@ -43,7 +31,7 @@ module _ (bs inner : List ℕ) (lead n : ℕ) (leads : lead_of bs ≡ lead) (is 
   outside =
       let long = length-marks false bs in
       let here = step bs lead (leaves false (take lead bs)) lt (sym (marks-drop lead false bs)) in
-      ink_outside (leaves false (take lead bs)) (get_or bs lead 0) (ap (passes Blanks) (sym here.mark) ∙ stopped (passes Blanks) (marks false bs) lead leads (omega arith))
+      ink_outside (leaves false (take lead bs)) (get_or bs lead 0) (ap (passes Blanks) (sym here.mark) ∙ subst (λ k. passes Blanks (get_or (marks false bs) k Text) ≡ false) leads (prefix_len_stops (passes Blanks) (marks false bs) Text (omega arith)))
 
   reads : Reads Word false (take n inner)
   reads = subst (Passes Word) (ap (λ k. take k (marks false inner)) len ∙ sym (marks-take n false inner)) (all_leading (passes Word) (marks false inner))

@@ -1,11 +1,9 @@
 -- The first word, off the front. Assumes nothing.
-use Rattle.std.proofs.Common.{◌≡◌, ℕ, zero, suc, ◌+◌, ◌<◌, Bool, true, false, List, [], ◌∷◌, length, take, drop, Some, sym, refl, ◌∙◌, subst, ⊎_elim, arith}
+use Rattle.std.proofs.Common.{◌≡◌, ℕ, zero, suc, ◌+◌, ◌<◌, Bool, true, false, List, [], ◌∷◌, length, drop, refl, subst, ⊎_elim, arith}
 use Rattle.items.specs.declared.mark.Mark.{Mark}
 use Rattle.items.specs.declared.mark.Mark.TheVariants.{Blank, Slash, Text}
 use Rattle.items.specs.declared.mark.Run.TheVariants.{Blanks, Word}
-use Rattle.items.specs.Items.{is_blank}
 use Rattle.items.specs.Marks.{after, mark_of, marks, passes}
-use Rattle.items.specs.Words.{first_word, lead_of, word_len}
 use Rattle.std.proofs.lemmas.Bool.{cases_Bool, cond-false, cond-true, true≢false}
 use Rattle.std.specs.List.{prefix_len}
 
@@ -43,8 +41,3 @@ word_begins s (b ∷ bs) (suc n) h lt =
     (λ is. word_begins (after s b) bs n (omega (arith, blank_on s b bs is)) (omega arith))
     (λ is. absurd (omega (arith, blank_stops s b bs is)))
     (cases_Bool (passes Blanks (mark_of s b)))
-
-pub first_is : (xs inner word rest : List ℕ) (lead n : ℕ) → is_blank xs ≡ false → lead ≡ lead_of xs → inner ≡ drop lead xs → n ≡ word_len inner → word ≡ take n inner → rest ≡ drop n inner → Some (lead, (word, rest)) ≡ first_word xs
-first_is xs inner word rest lead n ink leads is len first last =
-    let same : Some (lead, (word, rest)) ≡ Some (lead_of xs, (take (word_len (drop (lead_of xs) xs)) (drop (lead_of xs) xs), drop (word_len (drop (lead_of xs) xs)) (drop (lead_of xs) xs))) = cc in
-    same ∙ sym (cond-false _ _ _ ink)

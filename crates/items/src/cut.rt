@@ -5,18 +5,16 @@ mod read;
 
 pub use read::fit;
 
-// The raw bytes of an item, and the place of its first byte in the text.
+// The raw bytes of an item, and the place of its first byte in the text. A type beside `Line`, so that neither is taken for the other.
 #[derive(Clone, Copy)]
 pub struct Item<'a> {
     pub part: &'a [u8],
     pub place: usize,
+    ghost fits: { place + length part.now < 2 ^ 64 },
 }
 
-// What is left of a line, which begins at `place`; `done` where no item is left.
+// What is left of a line, not yet cut into items; nothing where no item is left.
 #[derive(Clone, Copy)]
 pub struct Items<'a> {
-    rest: &'a [u8],
-    place: usize,
-    done: bool,
-    ghost fits: { place + length rest.now < 2 ^ 64 },
+    rest: Option<Item<'a>>,
 }

@@ -1,6 +1,7 @@
 // How each byte of a line reads, and the scans that this decides.
 ghost use Rattle.std.specs.Prelude.{◌≡◌, ◌+◌, ◌-◌, ◌≤◌, false, length};
 ghost use Rattle.items.specs.Marks.{after, body_len, core, edge, mark_of, marks, passes};
+ghost use Rattle.std.specs.Iterator.{YieldsFirst, item_count};
 ghost use Rattle.std.specs.List.{prefix_len};
 
 // What a byte reads as.
@@ -49,19 +50,45 @@ fn belongs(run: Run, mark: Mark) -> bool
     }
 }
 
+// Gives what each byte reads as, one after another; `inside` where a comment is open before the next.
+#[derive(Clone, Copy)]
+struct Marks<'a> {
+    rest: &'a [u8],
+    inside: bool,
+}
+
+impl<'a> Iterator for Marks<'a> {
+    type Item = Mark;
+
+    ghost next_gives = { YieldsFirst (λ s. marks s.inside s.rest.now) };
+
+    ghost remaining = { item_count (λ s. marks s.inside s.rest.now) };
+
+    fn next(&mut self) -> Option<Mark> {
+        let (b, rest) = self.rest.split_first()?;
+        let mark = mark_of(self.inside, *b);
+        self.inside = is_open_after(self.inside, *b);
+        self.rest = rest;
+        Some(mark)
+    }
+}
+
+fn marks_of(bytes: &[u8]) -> Marks<'_>
+    ensures { marks result.inside result.rest.now ≡ marks false bytes.now }
+{
+    Marks {
+        rest: bytes,
+        inside: false,
+    }
+}
+
 // How many bytes at the front belong to the run.
 pub fn run_len(bytes: &[u8], run: Run) -> usize
     ensures value { result ≡ prefix_len (passes run) (marks false bytes.now) }
     ensures valid { result ≤ length bytes.now }
 {
-    let mut inside = false;
-    for (i, b) in bytes.iter().enumerate() {
-        if !belongs(run, mark_of(inside, *b)) {
-            return i;
-        }
-        inside = is_open_after(inside, *b);
-    }
-    bytes.len()
+    let end = marks_of(bytes).position(|mark| !belongs(run, mark));
+    end.unwrap_or(bytes.len())
 }
 
 // How many bytes there are up to the last that does not belong to the run.
@@ -69,15 +96,12 @@ fn edge_len(bytes: &[u8], run: Run) -> usize
     ensures value { result ≡ edge run (marks false bytes.now) }
     ensures valid { result ≤ length bytes.now }
 {
-    let mut inside = false;
-    let mut n: usize = 0;
-    for (i, b) in bytes.iter().enumerate() {
-        if !belongs(run, mark_of(inside, *b)) {
-            n = i + 1;
-        }
-        inside = is_open_after(inside, *b);
+    // A loop, since marks are read from the front alone.
+    let mut behind: usize = 0;
+    for mark in marks_of(bytes) {
+        behind = if belongs(run, mark) { behind + 1 } else { 0 };
     }
-    n
+    bytes.len() - behind
 }
 
 // The bytes less the runs at both ends, and how many stand before them.
@@ -88,11 +112,7 @@ pub fn trim(bytes: &[u8], run: Run) -> (usize, &[u8])
 {
     let lead = run_len(bytes, run);
     let end = edge_len(bytes, run);
-    if lead < end {
-        (lead, &bytes[lead..end])
-    } else {
-        (lead, &bytes[lead..lead])
-    }
+    (lead, &bytes[lead..end.max(lead)])
 }
 
 // How many bytes are left of a body line less the blanks at its end and one slash before them.
@@ -100,15 +120,10 @@ pub fn body_len(bytes: &[u8]) -> usize
     ensures value { result ≡ body_len (marks false bytes.now) }
     ensures valid { result ≤ length bytes.now }
 {
-    let mut inside = false;
-    let mut n: usize = 0;
-    for (i, b) in bytes.iter().enumerate() {
-        match mark_of(inside, *b) {
-            Mark::Blank => {}
-            Mark::Slash => n = i,
-            Mark::Text => n = i + 1,
-        }
-        inside = is_open_after(inside, *b);
+    let end = edge_len(bytes, Run::Blanks);
+    let last = end.saturating_sub(1);
+    match marks_of(bytes).nth(last) {
+        Some(Mark::Slash) => last,
+        _ => end,
     }
-    n
 }

@@ -3,8 +3,8 @@
 
 use items::Items;
 use merging::{Header, Merged, Part};
-use printing::{show, show_piece, show_text};
-use reader::{Lines, is_readable};
+use printing::{show, show_piece, show_text, state_name};
+use reader::Lines;
 use std::io;
 
 const SAMPLES: [&[u8]; 84] = [
@@ -131,8 +131,7 @@ fn show_merged<'a>(rt: &HostRuntime, header: &'a [u8], line: &'a [u8]) -> io::Re
         Some(first) => Items::of_line(first.part, first.place),
         None => Items::of_line(header, 0),
     };
-    let mut merged = Merged::new(Header::new(opening, lines, 9), Items::of_body(line, 200));
-    while let Some(part) = merged.next_part() {
+    for part in Merged::new(Header::new(opening, lines, 9), Items::of_body(line, 200)) {
         show_part(rt, part)?;
     }
     Ok(())
@@ -140,11 +139,7 @@ fn show_merged<'a>(rt: &HostRuntime, header: &'a [u8], line: &'a [u8]) -> io::Re
 
 fn show_length(rt: &HostRuntime, line: &[u8]) -> io::Result<()> {
     let len = line.len();
-    let state = if is_readable(line) {
-        "readable"
-    } else {
-        "unreadable"
-    };
+    let state = state_name(line);
     println!(rt; "a line of {len} bytes is {state}")
 }
 

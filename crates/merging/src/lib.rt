@@ -10,8 +10,6 @@ pub use heading::{Header, continued_items};
 pub use merge::{Merged, Part, is_d_item};
 
 // No item of a body line is lost where it is merged with its header's, and the header's are its first ones, both in order.
-pub fn merging_keeps_items() -> u8
+pub fn merging_keeps_items()
     ensures { MergedKeeps }
-{
-    0
-}
+{}

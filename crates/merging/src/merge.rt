@@ -1,8 +1,9 @@
 // The items of a .B body line, merged with those of its header.
 ghost use Rattle.std.specs.Prelude.{◌≡◌, false};
 ghost use Rattle.merging.specs.Headers.{header_ahead};
-ghost use Rattle.merging.specs.Merging.{FilledStep, PartStep, filled, from_header, is_d, parts_ahead};
+ghost use Rattle.merging.specs.Merging.{FilledStep, PartStep, filled, from_header, is_d, parts_ahead, sided};
 ghost use Rattle.items.specs.Steps.{items_ahead};
+ghost use Rattle.std.specs.Iterator.{YieldsFirstBy, item_count};
 
 use crate::heading::Header;
 use items::{Item, Items};
@@ -15,6 +16,7 @@ pub enum Part<'a> {
 }
 
 // The items left of a header and of a body line; `waiting` where a code of the header waits for its value.
+// It tells whose turn it is: no field lacks a value by it, so it stays a flag.
 #[derive(Clone, Copy)]
 pub struct Merged<'a> {
     header: Header<'a>,
@@ -25,10 +27,7 @@ pub struct Merged<'a> {
 pub fn is_d_item(item: &[u8]) -> bool
     ensures { result ≡ is_d item.now }
 {
-    match item {
-        [b'D', ..] => true,
-        _ => false,
-    }
+    matches!(item, [b'D', ..])
 }
 
 impl<'a> Header<'a> {
@@ -36,12 +35,7 @@ impl<'a> Header<'a> {
     pub fn next_filled(&mut self) -> Option<Item<'a>>
         ensures { FilledStep self.old result self.new }
     {
-        while let Some(item) = self.next_item() {
-            if !item.part.is_empty() {
-                return Some(item);
-            }
-        }
-        None
+        self.find(|item| !item.part.is_empty())
     }
 }
 
@@ -66,10 +60,20 @@ impl<'a> Merged<'a> {
                 return Some(Part::Header(item));
             }
         }
-        let Some(item) = self.line.next_item() else {
-            return None;
-        };
+        let item = self.line.next_item()?;
         self.waiting = self.waiting && is_d_item(item.part);
         Some(Part::Line(item))
+    }
+}
+
+impl<'a> Iterator for Merged<'a> {
+    type Item = Part<'a>;
+
+    ghost next_gives = { YieldsFirstBy sided parts_ahead };
+
+    ghost remaining = { item_count parts_ahead };
+
+    fn next(&mut self) -> Option<Part<'a>> {
+        self.next_part()
     }
 }

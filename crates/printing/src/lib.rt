@@ -1,6 +1,9 @@
 // Lines of a text with their kinds, continuation numbers, words and items, as they are printed.
 #![tactic(auto)]
 
+ghost use Rattle.std.specs.Prelude.{◌≡◌, ◌≤◌, cond, codes, length};
+ghost use Rattle.reader.specs.Kinds.{readable};
+
 use items::{Items, next_word, split_item};
 use reader::{Form, Line, LineKind, Lines, continuation_of, is_readable, kind_of, letters_len};
 use std::io;
@@ -25,49 +28,60 @@ pub fn show_piece(rt: &HostRuntime, place: usize, bytes: &[u8]) -> io::Result<()
     print!(rt; ">")
 }
 
-fn kind_name(kind: LineKind) -> &'static str {
-    match kind {
-        LineKind::Opening(Form::A, false) => "opening A",
-        LineKind::Opening(Form::B, false) => "opening B",
-        LineKind::Opening(Form::E, false) => "opening E",
-        LineKind::Opening(Form::A, true) => "opening AR",
-        LineKind::Opening(Form::B, true) => "opening BR",
-        LineKind::Opening(Form::E, true) => "opening ER",
-        LineKind::Continuation(Form::A, false) => "continuation A",
-        LineKind::Continuation(Form::B, false) => "continuation B",
-        LineKind::Continuation(Form::E, false) => "continuation E",
-        LineKind::Continuation(Form::A, true) => "continuation AR",
-        LineKind::Continuation(Form::B, true) => "continuation BR",
-        LineKind::Continuation(Form::E, true) => "continuation ER",
-        LineKind::End => "end",
-        LineKind::Dotted => "dotted",
-        LineKind::Other => "other",
+// The kind of a line as it is printed, an opening or a continuation with its form and R for a revision.
+fn show_kind(rt: &HostRuntime, kind: LineKind) -> io::Result<()> {
+    let (name, form, revised) = match kind {
+        LineKind::Opening(form, revised) => ("opening", form, revised),
+        LineKind::Continuation(form, revised) => ("continuation", form, revised),
+        LineKind::End => return print!(rt; "end"),
+        LineKind::Dotted => return print!(rt; "dotted"),
+        LineKind::Other => return print!(rt; "other"),
+    };
+    let letter = match form {
+        Form::A => 'A',
+        Form::B => 'B',
+        Form::E => 'E',
+    };
+    print!(rt; "{name} {letter}")?;
+    if revised { print!(rt; "R") } else { Ok(()) }
+}
+
+// Whether a line may be read, as it is printed.
+pub fn state_name(line: &[u8]) -> &'static str
+    ensures { result.now ≡ cond (readable line.now) (codes "readable") (codes "unreadable") }
+{
+    if is_readable(line) {
+        "readable"
+    } else {
+        "unreadable"
     }
 }
 
 fn show_words(rt: &HostRuntime, line: &[u8]) -> io::Result<()> {
     print!(rt; "  words")?;
     let mut rest = line;
+    let mut start = 0;
     while let Some(word) = next_word(rest) {
-        let behind = word.part.len().saturating_add(word.rest.len());
-        show_piece(rt, line.len().saturating_sub(behind), word.part)?;
+        start += word.lead;
+        show_piece(rt, start, word.part)?;
+        start += word.part.len();
         rest = word.rest;
     }
     println!(rt; "")
 }
 
-fn show_items(rt: &HostRuntime, mut items: Items) -> io::Result<()> {
+fn show_items(rt: &HostRuntime, items: Items) -> io::Result<()> {
     print!(rt; "  items")?;
-    while let Some(item) = items.next_item() {
+    for item in items {
         show_piece(rt, item.place, item.part)?;
     }
     println!(rt; "")
 }
 
-// The codes and values of a message's items.
-fn show_codes(rt: &HostRuntime, mut items: Items) -> io::Result<()> {
+// The codes and values of a message's items. It stays beside show_items: a closure for what differs is longer than the loop.
+fn show_codes(rt: &HostRuntime, items: Items) -> io::Result<()> {
     print!(rt; "  codes")?;
-    while let Some(item) = items.next_item() {
+    for item in items {
         let (code, value) = split_item(item.part);
         print!(rt; " <")?;
         show(rt, code)?;
@@ -79,23 +93,21 @@ fn show_codes(rt: &HostRuntime, mut items: Items) -> io::Result<()> {
 }
 
 // The items behind the first bytes of a message line.
-fn show_message(rt: &HostRuntime, line: Line, start: usize) -> io::Result<()> {
-    if start > line.part.len() {
-        return Ok(());
-    }
+fn show_message(rt: &HostRuntime, line: Line, start: usize) -> io::Result<()>
+    requires { start ≤ length line.part.now }
+{
     let (_, behind) = line.part.split_at(start);
-    let place = line.place.saturating_add(start);
-    show_items(rt, Items::of_line(behind, place))?;
-    show_codes(rt, Items::of_line(behind, place))
+    let items = Items::of_line(behind, line.place + start);
+    show_items(rt, items)?;
+    show_codes(rt, items)
 }
 
 // The items behind the station of a body line.
 fn show_body(rt: &HostRuntime, line: Line) -> io::Result<()> {
     match next_word(line.part) {
         Some(station) => {
-            let start = line.part.len().saturating_sub(station.rest.len());
-            let place = line.place.saturating_add(start);
-            show_items(rt, Items::of_body(station.rest, place))
+            let start = station.lead + station.part.len();
+            show_items(rt, Items::of_body(station.rest, line.place + start))
         }
         None => Ok(()),
     }
@@ -104,13 +116,10 @@ fn show_body(rt: &HostRuntime, line: Line) -> io::Result<()> {
 fn show_line(rt: &HostRuntime, line: Line) -> io::Result<()> {
     let (place, len) = (line.place, line.part.len());
     let kind = kind_of(line.part);
-    let name = kind_name(kind);
-    let state = if is_readable(line.part) {
-        "readable"
-    } else {
-        "unreadable"
-    };
-    println!(rt; " {place}+{len} {name}, {state}")?;
+    print!(rt; " {place}+{len} ")?;
+    show_kind(rt, kind)?;
+    let state = state_name(line.part);
+    println!(rt; ", {state}")?;
     show_words(rt, line.part)?;
     match kind {
         LineKind::Opening(_, _) => show_message(rt, line, letters_len(line.part)),
@@ -131,8 +140,7 @@ pub fn show_text(rt: &HostRuntime, text: &[u8]) -> io::Result<()> {
     print!(rt; "<")?;
     show(rt, text)?;
     println!(rt; ">")?;
-    let mut lines = Lines::new(text);
-    while let Some(line) = lines.next_line() {
+    for line in Lines::new(text) {
         show_line(rt, line)?;
     }
     Ok(())

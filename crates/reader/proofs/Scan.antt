@@ -1,10 +1,11 @@
 -- How a scan for the line's end keeps the lines of a text. Assumes nothing.
-use Rattle.std.proofs.Common.{◌≡◌, ℕ, ◌+◌, ◌-◌, ◌<◌, ◌≤◌, true, false, cond, eqb, List, [], ◌∷◌, ◌++◌, length, get_or, take, drop, sym, refl, ap, ◌∙◌, suc-le-suc, arith}
-use Rattle.std.specs.List.{between}
-use Rattle.std.proofs.lemmas.List.{at_drop_more, at_drop_all, take_all, take_more, take-take}
-use Rattle.std.proofs.lemmas.List.Edits.{between_more, length-between}
-use Rattle.std.proofs.lemmas.Bool.{ne_eqb, eq-eqb, cond-true, cond-false}
-use Rattle.reader.specs.Lines.{less_return, last_line, lines_from, lines_at}
+use Rattle.std.proofs.Common.{◌≡◌, ℕ, zero, suc, ◌+◌, ◌-◌, ◌<◌, ◌≤◌, true, false, cond, not, eqb, List, [], ◌∷◌, ◌++◌, length, get_or, take, drop, Some, None, sym, refl, ap, ◌∙◌, suc-le-suc, ⊎_elim, append_assoc, append-nil, arith}
+use Rattle.std.specs.List.{between, position, position_or_len}
+use Rattle.std.proofs.lemmas.List.{at_drop_more, at_drop_all, length-take-le, take_all, take_more}
+use Rattle.std.proofs.lemmas.List.Quantifiers.{position-Some}
+use Rattle.std.proofs.lemmas.Bool.{cases_Bool, cond-false, cond-true, eq-eqb, ne_eqb}
+use Rattle.std.proofs.lemmas.Bool.Decides.{nat_tests}
+use Rattle.reader.specs.Lines.{less_return, last_line, lines_from, lines_of}
 
 less_return-push : (bs : List ℕ) (b : ℕ) → less_return (bs ++ b ∷ []) ≡ cond (eqb b 13) bs (bs ++ b ∷ [])
 less_return-push [] b = refl
@@ -15,25 +16,36 @@ pub last_line-some : (start : ℕ) (bs : List ℕ) → 0 < length bs → last_li
 last_line-some start [] h = absurd (omega arith)
 last_line-some start (b ∷ bs) h = refl
 
-module _ (xs : List ℕ) (from i : ℕ) (low : from ≤ i) where
-  pub more : i < length xs → (get_or xs i 0 ≡ 10 → ⊥) → lines_from from (between from i xs) (drop i xs) ≡ lines_from from (between from (i + 1) xs) (drop (i + 1) xs)
-  more lt ne =
-      at_drop_more (lines_from from (between from i xs)) xs i 0 lt
-      ∙ cond-false _ _ _ (ne_eqb _ _ ne)
-      ∙ ap (λ l. lines_from from l (drop (i + 1) xs)) (sym (between_more xs from i 0 low lt))
+-- up to the first line feed the bytes are the line's
+unfed : (p : ℕ) (part xs : List ℕ) (n : ℕ) → n ≤ position_or_len (λ b. eqb b 10) xs → lines_from p part xs ≡ lines_from p (part ++ take n xs) (drop n xs)
+unfed p part xs zero h = ap (λ l. lines_from p l xs) (sym (append-nil part))
+unfed p part [] (suc n) h = absurd (omega arith)
+unfed p part (b ∷ bs) (suc n) h =
+    ⊎_elim
+    (λ is. absurd (omega (arith, cond-false (not (eqb b 10)) (1 + position_or_len (λ b. eqb b 10) bs) 0 (ap not is))))
+    (λ is.
+    cond-false _ _ _ is
+    ∙ unfed p (part ++ b ∷ []) bs n (omega (arith, cond-true (not (eqb b 10)) (1 + position_or_len (λ b. eqb b 10) bs) 0 (ap not is)))
+    ∙ ap (λ l. lines_from p l (drop n bs)) (append_assoc part (b ∷ []) (take n bs)))
+    (cases_Bool (eqb b 10))
 
-  pub at_end : from < i → i ≡ length xs → lines_from from (between from i xs) (drop i xs) ≡ (from, between from i xs) ∷ lines_at i xs
-  at_end some end =
-      at_drop_all (lines_from from (between from i xs)) xs i (omega arith)
-      ∙ last_line-some from (between from i xs) (omega (arith, length-between xs from i (omega arith)))
-      ∙ ap (λ l. (from, between from i xs) ∷ l) (sym (at_drop_all (lines_from i []) xs i (omega arith)))
+module _ (p : ℕ) (xs : List ℕ) where
+  pub at_end : None ≡ position (λ b. eqb b 10) xs → 0 < length xs → lines_of p xs ≡ (p, xs) ∷ []
+  at_end none some =
+      let end : length xs ≤ position_or_len (λ b. eqb b 10) xs = grind (arith, nat_tests) in
+      unfed p [] xs (length xs) end
+      ∙ ap (λ l. lines_from p l (drop (length xs) xs)) (take_all (length xs) xs (omega arith))
+      ∙ at_drop_all (lines_from p xs) xs (length xs) (omega arith)
+      ∙ last_line-some p xs some
 
-  pub at_feed : i < length xs → get_or xs i 0 ≡ 10 → lines_from from (between from i xs) (drop i xs) ≡ (from, less_return (between from i xs)) ∷ lines_at (i + 1) xs
-  at_feed lt is =
-      let next : from + length (between from i xs) + 1 ≡ i + 1 = omega (arith, length-between xs from i (omega arith)) in
-      at_drop_more (lines_from from (between from i xs)) xs i 0 lt
-      ∙ cond-true _ _ _ (eq-eqb _ _ is)
-      ∙ ap (λ p. (from, less_return (between from i xs)) ∷ lines_from p [] (drop (i + 1) xs)) next
+  pub at_feed : (n : ℕ) → Some n ≡ position (λ b. eqb b 10) xs → lines_of p xs ≡ (p, less_return (take n xs)) ∷ lines_of (p + n + 1) (drop (n + 1) xs)
+  at_feed n is =
+      let found = position-Some (λ b. eqb b 10) xs n 0 (sym is) in
+      let at : n ≤ position_or_len (λ b. eqb b 10) xs = grind (arith, nat_tests) in
+      unfed p [] xs n at
+      ∙ at_drop_more (lines_from p (take n xs)) xs n 0 found.0
+      ∙ cond-true _ _ _ found.1
+      ∙ ap (λ k. (p, less_return (take n xs)) ∷ lines_of (p + k + 1) (drop (n + 1) xs)) (length-take-le n xs (omega (arith, found.0)))
 
 -- the carriage return before the line feed
 module _ (xs : List ℕ) (some : 0 < length xs) where
@@ -48,10 +60,6 @@ module _ (xs : List ℕ) (some : 0 < length xs) where
   pub no_return : (get_or xs (length xs - 1) 0 ≡ 13 → ⊥) → less_return xs ≡ xs
   no_return ne = ap less_return last ∙ less_return-push (take (length xs - 1) xs) (get_or xs (length xs - 1) 0) ∙ cond-false (eqb (get_or xs (length xs - 1) 0) 13) (take (length xs - 1) xs) _ (ne_eqb _ _ ne) ∙ sym last
 
-pub no_line : (xs : List ℕ) → length xs ≡ 0 → less_return xs ≡ xs
-no_line [] e = refl
-no_line (x ∷ xs) e = absurd (omega arith)
-
 pub return_front : (xs : List ℕ) → less_return xs ≡ take (length (less_return xs)) xs
 return_front [] = refl
 return_front (b ∷ []) = elim (eqb b 13) as (λ v. cond v [] (b ∷ []) ≡ take (length (cond v [] (b ∷ []))) (b ∷ [])) [ true ↦ refl | false ↦ refl ]
@@ -62,9 +70,8 @@ return_le [] = omega arith
 return_le (b ∷ []) = elim (eqb b 13) as (λ v. length (cond v [] (b ∷ [])) ≤ 1) [ true ↦ omega arith | false ↦ omega arith ]
 return_le (b ∷ c ∷ bs) = suc-le-suc (return_le (c ∷ bs))
 
--- a front of a part of the text stands in the text
-pub front_stands : (xs part : List ℕ) (i j : ℕ) → j ≤ length xs → i ≤ j → part ≡ take (length part) (between i j xs) → length part ≤ length (between i j xs) → part ≡ between i (i + length part) xs
-front_stands xs part i j h l is le =
-    let long = length-between xs i j h in
+-- a front of what is left of the text stands in the text
+pub front_stands : (xs rest part : List ℕ) (i : ℕ) → rest ≡ drop i xs → part ≡ take (length part) rest → part ≡ between i (i + length part) xs
+front_stands xs rest part i left is =
     let e : length part ≡ i + length part - i = omega arith in
-    is ∙ take-take (length part) (j - i) (drop i xs) (omega arith) ∙ ap (λ n. take n (drop i xs)) e
+    is ∙ ap (take (length part)) left ∙ ap (λ n. take n (drop i xs)) e

@@ -5,6 +5,7 @@ use Rattle.reader.specs.declared.kind.Form.{Form}
 use Rattle.reader.specs.declared.kind.Form.TheVariants.{A, B, E}
 use Rattle.reader.specs.declared.kind.LineKind.{LineKind}
 use Rattle.reader.specs.declared.kind.LineKind.TheVariants.{Opening, Continuation, End, Dotted, Other}
+use Rattle.std.specs.List.{list_all}
 use Rattle.std.specs.Option.{option_map}
 use Rattle.text.specs.Signs.{digit, pair_of}
 
@@ -73,8 +74,7 @@ abbrev pub printable : ℕ → Bool
 printable b = nat_le 32 b && nat_le b 126
 
 abbrev pub all_printable : List ℕ → Bool
-all_printable [] = true
-all_printable (b ∷ bs) = printable b && all_printable bs
+all_printable bs = list_all printable bs
 
 abbrev pub readable : List ℕ → Bool
 readable line = nat_le (length line) 1000 && all_printable line

@@ -1,7 +1,8 @@
 // What a line is by how it begins, the number of a continuation, and which lines may be read at all.
-ghost use Rattle.std.specs.Prelude.{◌≡◌, ◌<◌, ◌≤◌, length, IfSome};
-ghost use Rattle.reader.specs.Kinds.{all_printable, blank_here, continuation_of, ending, figures, kind_of, lettered, letters_of, numbered, readable, revisable, two_figures};
+ghost use Rattle.std.specs.Prelude.{◌≡◌, ◌<◌, ◌≤◌, length, drop, IfSome};
+ghost use Rattle.reader.specs.Kinds.{all_printable, blank_here, continuation_of, ending, figures, kind_of, lettered, letters_of, numbered, placed, readable, revisable};
 ghost use Rattle.reader.specs.Told.{KindsTold};
+ghost use Rattle.std.specs.Option.{option_map};
 
 use text::{is_digit, two_digits};
 
@@ -12,7 +13,8 @@ pub enum Form {
     E,
 }
 
-// The flag of an opening and of a continuation says whether R marks a revision.
+// The flag of an opening and of a continuation says whether R marks a revision. It stands beside the form and not in one
+// type with it: the form alone chooses how items are read, and the flag alone goes into the records.
 #[derive(Clone, Copy, PartialEq, Eq)]
 pub enum LineKind {
     Opening(Form, bool),
@@ -93,38 +95,25 @@ pub fn letters_len(line: &[u8]) -> usize
 fn is_blank_here(b: u8) -> bool
     ensures { result ≡ blank_here b }
 {
-    b == b' ' || b == b':'
+    matches!(b, b' ' | b':')
 }
 
-// A number of two digits with a blank behind it, and how many bytes it takes.
-fn read_pair(a: u8, b: u8, rest: &[u8]) -> Option<(u8, usize)>
-    ensures value { result ≡ two_figures a b rest.now }
-    ensures valid { IfSome result (λ n. (n.0 < 100) × ((n.1 ≡ 2) × (0 < length rest.now))) }
+// The number that stands behind the letters, where a blank follows its one or two digits.
+fn number_behind(line: &[u8], letters: usize) -> Option<Continuation>
+    requires { letters ≤ length line.now }
+    ensures value { result ≡ option_map (placed letters) (figures (drop letters line.now)) }
+    ensures valid { IfSome result (λ c. (c.number < 100) × (c.start < length line.now)) }
 {
-    match rest {
-        [c, ..] if is_blank_here(*c) => {
-            let number = two_digits(a, b)?;
-            Some((number, 2))
-        }
-        _ => None,
-    }
-}
-
-// The number that the bytes begin with, a blank behind it, and how many bytes it takes.
-fn read_number(bytes: &[u8]) -> Option<(u8, usize)>
-    ensures value { result ≡ figures bytes.now }
-    ensures valid { IfSome result (λ n. (n.0 < 100) × (n.1 < length bytes.now)) }
-{
-    match bytes {
-        [a, b, rest @ ..] => {
-            if !is_blank_here(*b) {
-                read_pair(*a, *b, rest)
-            } else if is_digit(*a) {
-                Some((*a - b'0', 1))
-            } else {
-                None
-            }
-        }
+    let (_, behind) = line.split_at(letters);
+    match behind {
+        [a, b, ..] if is_digit(*a) && is_blank_here(*b) => Some(Continuation {
+            number: *a - b'0',
+            start: letters + 1,
+        }),
+        [a, b, c, ..] if is_blank_here(*c) => Some(Continuation {
+            number: two_digits(*a, *b)?,
+            start: letters + 2,
+        }),
         _ => None,
     }
 }
@@ -135,15 +124,7 @@ pub fn continuation_of(line: &[u8]) -> Option<Continuation>
     ensures valid { IfSome result (λ c. (c.number < 100) × (c.start < length line.now)) }
 {
     match kind_of(line) {
-        LineKind::Continuation(_, _) => {
-            let letters = letters_len(line);
-            let (_, behind) = line.split_at(letters);
-            let (number, digits) = read_number(behind)?;
-            Some(Continuation {
-                number,
-                start: letters + digits,
-            })
-        }
+        LineKind::Continuation(_, _) => number_behind(line, letters_len(line)),
         _ => None,
     }
 }
@@ -158,17 +139,10 @@ pub fn is_readable(line: &[u8]) -> bool
 fn is_printable(line: &[u8]) -> bool
     ensures { result ≡ all_printable line.now }
 {
-    for b in line {
-        if *b < 32 || *b > 126 {
-            return false;
-        }
-    }
-    true
+    line.iter().all(|b| matches!(*b, 32..=126))
 }
 
 // States how a line's beginning tells its kind and its number, and that no line of a kind begins otherwise.
-pub fn kinds_are_told() -> u8
+pub fn kinds_are_told()
     ensures { KindsTold }
-{
-    0
-}
+{}

@@ -1,7 +1,8 @@
 // How the items of a line are read.
-ghost use Rattle.std.specs.Prelude.{◌≡◌, ◌+◌, ◌^◌, ◌<◌, [], length};
+ghost use Rattle.std.specs.Prelude.{◌≡◌, ◌+◌, ◌^◌, ◌<◌, ◌≤◌, [], length, MatchOption};
 ghost use Rattle.items.specs.Items.{body_items, fitted, message_items};
-ghost use Rattle.items.specs.Steps.{ItemStep, items_ahead};
+ghost use Rattle.items.specs.Steps.{ItemStep, item_piece, items_ahead};
+ghost use Rattle.std.specs.Iterator.{YieldsFirstBy, item_count};
 
 use super::{Item, Items};
 use crate::mark::{Run, body_len, run_len, trim};
@@ -11,8 +12,20 @@ pub fn fit(place: usize, len: usize) -> usize
     ensures value { result ≡ fitted place len }
     ensures valid { result + len < 2 ^ 64 }
 {
-    let most = usize::MAX - len;
-    if place < most { place } else { most }
+    place.min(usize::MAX - len)
+}
+
+impl<'a> Item<'a> {
+    // The item that stands at a place, none where its last byte would have no place.
+    pub fn new(part: &'a [u8], place: usize) -> Option<Item<'a>>
+        ensures { MatchOption result (2 ^ 64 ≤ place + length part.now) (λ x. (x.part.now ≡ part.now) × (x.place ≡ place)) }
+    {
+        if part.len() <= usize::MAX - place {
+            Some(Item { part, place })
+        } else {
+            None
+        }
+    }
 }
 
 impl<'a> Items<'a> {
@@ -20,11 +33,7 @@ impl<'a> Items<'a> {
     pub fn none() -> Items<'a>
         ensures { items_ahead result ≡ [] }
     {
-        Items {
-            rest: &[],
-            place: 0,
-            done: true,
-        }
+        Items { rest: None }
     }
 
     // The items of a message line's part that begins at `place`.
@@ -33,11 +42,12 @@ impl<'a> Items<'a> {
         ensures placed { place + length part.now < 2 ^ 64 → items_ahead result ≡ message_items place part.now }
     {
         let place = fit(place, part.len());
-        let (lead, rest) = trim(part, Run::Loose);
+        let (lead, part) = trim(part, Run::Loose);
         Items {
-            rest,
-            place: place + lead,
-            done: false,
+            rest: Some(Item {
+                part,
+                place: place + lead,
+            }),
         }
     }
 
@@ -48,30 +58,44 @@ impl<'a> Items<'a> {
     {
         let place = fit(place, part.len());
         let (rest, _) = part.split_at(body_len(part));
-        let done = run_len(rest, Run::Blanks) == rest.len();
-        Items { rest, place, done }
+        if run_len(rest, Run::Blanks) == rest.len() {
+            return Items::none();
+        }
+        Items {
+            rest: Some(Item { part: rest, place }),
+        }
     }
 
     pub fn next_item(&mut self) -> Option<Item<'a>>
         ensures { ItemStep self.old result self.new }
     {
-        if self.done {
-            return None;
-        }
-        let start = self.place;
-        let len = run_len(self.rest, Run::Stretch);
-        let (piece, behind) = self.rest.split_at(len);
+        let line = self.rest?;
+        let start = line.place;
+        let len = run_len(line.part, Run::Stretch);
+        let (piece, behind) = line.part.split_at(len);
+        self.rest = match behind {
+            [] => None,
+            [_, rest @ ..] => Some(Item {
+                part: rest,
+                place: start + len + 1,
+            }),
+        };
         let (lead, part) = trim(piece, Run::Blanks);
-        let item = Item {
+        Some(Item {
             part,
             place: start + lead,
-        };
-        if behind.is_empty() {
-            self.done = true;
-            return Some(item);
-        }
-        self.rest = &behind[1..];
-        self.place = start + len + 1;
-        Some(item)
+        })
+    }
+}
+
+impl<'a> Iterator for Items<'a> {
+    type Item = Item<'a>;
+
+    ghost next_gives = { YieldsFirstBy item_piece items_ahead };
+
+    ghost remaining = { item_count items_ahead };
+
+    fn next(&mut self) -> Option<Item<'a>> {
+        self.next_item()
     }
 }

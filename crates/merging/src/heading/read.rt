@@ -1,8 +1,8 @@
 // How the items of a header are read.
-ghost use Rattle.std.specs.Prelude.{◌≡◌, ◌+◌, ◌^◌, ◌<◌, length, take};
+ghost use Rattle.std.specs.Prelude.{◌≡◌, take};
 ghost use Rattle.merging.specs.Headers.{HeaderStep, continued_items, header_ahead, header_items};
-ghost use Rattle.items.specs.Items.{fitted};
-ghost use Rattle.items.specs.Steps.{items_ahead};
+ghost use Rattle.items.specs.Steps.{item_piece, items_ahead};
+ghost use Rattle.std.specs.Iterator.{YieldsFirstBy, item_count};
 ghost use Rattle.reader.specs.Lines.{line_piece, lines_ahead};
 
 use super::Header;
@@ -11,12 +11,12 @@ use reader::{Line, Lines, continuation_of};
 
 // The items behind the number of a continuation. A line of another kind has none.
 pub fn continued_items<'a>(line: Line<'a>) -> Items<'a>
-    ensures { line.entry.place + length line.entry.part.now < 2 ^ 64 → items_ahead result ≡ continued_items (line_piece line.entry) }
+    ensures { items_ahead result ≡ continued_items (line_piece line.entry) }
 {
     match continuation_of(line.part) {
         Some(number) => {
             let (_, behind) = line.part.split_at(number.start);
-            Items::of_line(behind, line.place.saturating_add(number.start))
+            Items::of_line(behind, line.place + number.start)
         }
         None => Items::none(),
     }
@@ -41,14 +41,21 @@ impl<'a> Header<'a> {
             if let Some(item) = self.items.next_item() {
                 return Some(item);
             }
-            if self.left == 0 {
-                return None;
-            }
-            let Some(line) = self.lines.next_line() else {
-                return None;
-            };
-            self.left -= 1;
+            self.left = self.left.checked_sub(1)?;
+            let line = self.lines.next_line()?;
             self.items = continued_items(line);
         }
+    }
+}
+
+impl<'a> Iterator for Header<'a> {
+    type Item = Item<'a>;
+
+    ghost next_gives = { YieldsFirstBy item_piece header_ahead };
+
+    ghost remaining = { item_count header_ahead };
+
+    fn next(&mut self) -> Option<Item<'a>> {
+        self.next_item()
     }
 }

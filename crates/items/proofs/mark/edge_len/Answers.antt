@@ -1,29 +1,30 @@
-use Rattle.std.proofs.Common.{◌+◌, false, sym, ap, ◌∙◌, subst, arith}
+use Rattle.std.proofs.Common.{◌≡◌, false, length, ap, ◌∙◌, sym, arith}
+use Rattle.items.proofs.Scan.{length-marks}
 use Rattle.items.proofs.mark.edge_len.Goals as goal
-use Rattle.items.proofs.mark.edge_len.Goals.{then-not-belongs, else-not-belongs}
-use Rattle.items.proofs.Scan.{Open, edge_more_falls, edge_more_stays, length-marks, step}
-use Rattle.items.specs.Marks.{edge, marks, passes}
-use Rattle.std.proofs.lemmas.List.{take_all}
+use Rattle.items.proofs.mark.edge_len.Goals.{In-None}
+use Rattle.items.specs.Marks.{marks, passes}
+use Rattle.std.proofs.lemmas.Iterator.Consumers.{YieldsList-end, YieldsList-from_first, YieldsList-turn}
+use Rattle.std.proofs.lemmas.List.{map-id}
+use Rattle.std.proofs.lemmas.List.Sums.{suffix_len-le-length}
+use Rattle.std.specs.List.{suffix_len}
 
-pub loop-i-preserved : goal.loop-i-preserved
-loop-i-preserved c =
-    let xs = c.args.bytes.now in
-    let i = c.loop-i.i in
-    let long = length-marks false c.args.bytes.now in
-    let here = step c.args.bytes.now c.loop-i.i c.loop-i.inside c.loop-i-test.true c.loop-i.invariant.0 in
-    let told = ap (passes c.args.run) (here.mark ∙ sym c.mark_of.ensures) ∙ sym c.belongs.ensures in (
-      subst (Open xs (i + 1)) (sym c.is_open_after-inside.ensures) here.next,
-      elim c.if-not-belongs.branch [ then-not-belongs w ↦ omega (arith, w.n-is) | else-not-belongs w ↦ omega (arith, w.n-is) ],
-      elim c.if-not-belongs.branch [
-        | then-not-belongs w ↦ w.n-is ∙ sym (edge_more_stays (marks false xs) i (omega arith) c.args.run (told ∙ w.if-not-belongs.true))
-        | else-not-belongs w ↦ w.n-is ∙ c.loop-i.invariant.2 ∙ sym (edge_more_falls (marks false xs) i (omega arith) c.args.run (told ∙ w.if-not-belongs.false))
-      ],
-    )
+pub overflow_add-behind : goal.overflow_add-behind
+overflow_add-behind c =
+    let all = marks false c.args.bytes.now in
+    let road = YieldsList-from_first (λ m. m) (λ s. marks s.inside s.rest.now) {s = c.into_iter-mark-iterator.result} all (cc) in
+    let turn = YieldsList-turn road _ _ c.loop-mark.yielded_by c.next.result c.next.new.self c.in-Some.mark c.in-Some.is c.next.ensures.steps in
+    omega (arith, turn.0, c.loop-mark.invariant, suffix_len-le-length (passes c.args.run) c.loop-mark.yielded, length-marks false c.args.bytes.now)
 
-pub returns : goal.returns
-returns c =
-    let long = length-marks false c.args.bytes.now in
-    record {
-      value = c.loop-i.invariant.2 ∙ ap (edge c.args.run) (take_all c.loop-i.i (marks false c.args.bytes.now) (omega arith));
-      valid = omega arith;
-    }
+-- all the marks have been read
+all_read : (c : In-None) → c.loop-mark.yielded ≡ marks false c.args.bytes.now
+all_read c =
+    let road = YieldsList-from_first (λ m. m) (λ s. marks s.inside s.rest.now) {s = c.into_iter-mark-iterator.result} (marks false c.args.bytes.now) (cc) in
+    sym (map-id c.loop-mark.yielded) ∙ (YieldsList-end road _ _ c.loop-mark.yielded_by c.next.result c.next.new.self c.in-None.is c.next.ensures.steps).0
+
+pub overflow_sub-result : goal.overflow_sub-result
+overflow_sub-result c = omega (arith, c.loop-mark.invariant, suffix_len-le-length (passes c.args.run) c.loop-mark.yielded, ap length (all_read c), length-marks false c.args.bytes.now)
+
+pub returns-clause-value : goal.returns-clause-value
+returns-clause-value c =
+    let is = c.loop-mark.invariant ∙ ap (suffix_len (passes c.args.run)) (all_read c) in
+    omega (arith, is, length-marks false c.args.bytes.now)

@@ -1,7 +1,7 @@
-use Rattle.std.proofs.Common.{◌≡◌, ◌≤◌, false, take}
+use Rattle.std.proofs.Common.{◌≡◌}
 use Rattle.items.proofs.mark.edge_len.Given as goal
-use Rattle.items.proofs.Scan.{Open}
-use Rattle.items.specs.Marks.{edge, marks}
+use Rattle.items.specs.Marks.{passes}
+use Rattle.std.specs.List.{suffix_len}
 
-abbrev pub invariant-loop-i : goal.invariant-loop-i
-invariant-loop-i l = Open l.bytes l.i l.inside × (l.n ≤ l.i) × (l.n ≡ edge l.run (take l.i (marks false l.bytes)))
+abbrev pub invariant-loop-mark : goal.invariant-loop-mark
+invariant-loop-mark l = l.behind ≡ suffix_len (passes l.run) l.yielded

@@ -1,25 +1,23 @@
-use Rattle.std.proofs.Common.{◌≡◌, ◌+◌, true, false, get_or, drop, sym, ap, ◌∙◌, arith}
+use Rattle.std.proofs.Common.{false, not, length, ap, ◌∙◌, inl, sym, arith, rules, tests}
+use Rattle.items.proofs.Scan.{length-marks, run_is}
 use Rattle.items.proofs.mark.run_len.Goals as goal
-use Rattle.items.proofs.Scan.{run_ends, run_more, run_stops}
-use Rattle.items.specs.Marks.{after, mark_of, marks, passes}
-use Rattle.std.specs.List.{prefix_len}
+use Rattle.items.specs.Marks.{marks, passes}
+use Rattle.std.proofs.lemmas.Iterator.Consumers.{YieldsList-from_first}
+use Rattle.std.proofs.lemmas.Iterator.Search.{position_from_yields_List}
+use Rattle.std.proofs.lemmas.List.Sums.{prefix_len-le-length}
+use Rattle.std.specs.Option.{unwrap_or}
 
-pub returns-then-not-belongs : goal.returns-then-not-belongs
-returns-then-not-belongs c =
-    let is : passes c.args.run (mark_of c.loop-i.inside (get_or c.args.bytes.now c.loop-i.i 0)) ≡ false = ap (passes c.args.run) (sym c.mark_of.ensures) ∙ sym c.if-not-belongs.ensures in
-    record {
-      value = omega (arith, c.loop-i.invariant, run_stops c.args.run c.args.bytes.now c.loop-i.i c.loop-i.inside c.loop-i-test.true is);
-      valid = omega arith;
-    }
+pub position-end-requires-clause-fits : goal.position-end-requires-clause-fits
+position-end-requires-clause-fits c = inl (omega (arith, ap length c.marks_of.ensures, length-marks false c.args.bytes.now))
 
-pub loop-i-preserved : goal.loop-i-preserved
-loop-i-preserved c =
-    let is : passes c.args.run (mark_of c.loop-i.inside (get_or c.args.bytes.now c.loop-i.i 0)) ≡ true = ap (passes c.args.run) (sym c.mark_of.ensures) ∙ sym c.if-not-belongs.ensures in
-    let on : prefix_len (passes c.args.run) (marks c.is_open_after-inside.result (drop (c.loop-i.i + 1) c.args.bytes.now)) ≡ prefix_len (passes c.args.run) (marks (after c.loop-i.inside (get_or c.args.bytes.now c.loop-i.i 0)) (drop (c.loop-i.i + 1) c.args.bytes.now)) = ap (λ s. prefix_len (passes c.args.run) (marks s (drop (c.loop-i.i + 1) c.args.bytes.now))) c.is_open_after-inside.ensures in
-    omega (arith, c.loop-i.invariant, run_more c.args.run c.args.bytes.now c.loop-i.i c.loop-i.inside c.loop-i-test.true is)
+pub returns-clause-value : goal.returns-clause-value
+returns-clause-value c =
+    let ms = marks false c.args.bytes.now in
+    let road = YieldsList-from_first (λ m. m) (λ s. marks s.inside s.rest.now) {s = c.marks_of.result} ms c.marks_of.ensures in
+    c.unwrap_or.ensures
+    ∙ ap (λ o. unwrap_or o (length c.args.bytes.now)) (position_from_yields_List (λ m. not (passes c.args.run m)) c.position-end.new.self _ c.position-end.result c.position-end.ensures.ran road (λ x b q k. search (rules, tests)))
+    ∙ run_is (passes c.args.run) ms (length c.args.bytes.now) (sym (length-marks false c.args.bytes.now))
 
-pub returns : goal.returns
-returns c = record {
-  value = omega (arith, c.loop-i.invariant, run_ends c.args.run c.args.bytes.now c.loop-i.i c.loop-i.inside c.loop-i-test.false);
-  valid = omega arith;
-}
+pub returns-clause-valid : goal.returns-clause-valid
+returns-clause-valid c =
+    omega (arith, returns-clause-value c, prefix_len-le-length (passes c.args.run) (marks false c.args.bytes.now), length-marks false c.args.bytes.now)

@@ -1,49 +1,56 @@
-use Rattle.std.proofs.Common.{◌≡◌, ℕ, ◌+◌, ◌-◌, ◌≤◌, [], length, get_or, refl, ap, ◌∙◌, arith}
-use Rattle.std.proofs.lemmas.List.{at_drop_all}
-use Rattle.std.specs.List.{between}
-use Rattle.std.proofs.lemmas.List.Edits.{length-between}
-use Rattle.reader.proofs.Scan.{at_end, at_feed, return_front, return_le, front_stands}
-use Rattle.reader.specs.Lines.{lines_from}
+use Rattle.std.proofs.Common.{◌≡◌, ℕ, ◌+◌, ◌-◌, ◌≤◌, eqb, List, [], ◌∷◌, length, get_or, take, drop, sym, refl, ap, ◌∙◌, subst, arith}
+use Rattle.std.proofs.lemmas.List.{at_drop_all, drop-drop, get_or-drop, length-take-le, take_all, take-take}
+use Rattle.std.proofs.lemmas.List.Quantifiers.{position-Some}
+use Rattle.std.proofs.lemmas.Bool.{eqb-false, eqb-true}
+use Rattle.reader.specs.Lines.{lines_from, lines_of}
+use Rattle.reader.proofs.Scan.{at_end, at_feed, front_stands, return_front, return_le}
 use Rattle.reader.proofs.split.Lines.next_line.Goals as goal
 
-pub returns-then-place-text : goal.returns-then-place-text
-returns-then-place-text c =
-    let none = at_drop_all (lines_from c.args.self.now.pos []) c.args.self.now.text.now c.args.self.now.pos (omega arith) in
-    (refl, (none, none))
-
-pub returns-then-end-text : goal.returns-then-end-text
-returns-then-end-text c =
+pub returns-in-Some : goal.returns-in-Some
+returns-in-Some c =
     let text = c.args.self.now.text.now in
     let pos : ℕ = c.args.self.now.pos in
-    let end : ℕ = c.line_end-end.result in
-    let long = length-between text pos end c.line_end-end.ensures.within in
-    let e : end ≡ pos + length (between pos end text) = omega arith in (
+    let rest = c.split_at.result.1.now in
+    let n : ℕ = c.in-Some.len in
+    let part : List ℕ = c.less_return-part.result.now in
+    let left = c.split_at.ensures.back in
+    let found = position-Some (λ b. eqb b 10) c.split_at.result.1.now c.in-Some.len 0 (sym c.line_end.ensures ∙ c.in-Some.is) in
+    let back : c.args.self.now.pos + c.in-Some.len + 1 - 1 ≡ c.args.self.now.pos + c.in-Some.len = omega arith in
+    let on : c.args.self.now.pos + (c.in-Some.len + 1) ≡ c.args.self.now.pos + c.in-Some.len + 1 = omega arith in
+    let fits : c.in-Some.len ≤ length c.split_at.result.1.now = omega (arith, found.0) in
+    let short : length c.less_return-part.result.now ≤ c.in-Some.len = omega (arith, ap length c.less_return-part.ensures, return_le (take c.in-Some.len c.split_at.result.1.now), length-take-le c.in-Some.len c.split_at.result.1.now fits) in
+    let front : c.less_return-part.result.now ≡ take (length c.less_return-part.result.now) c.split_at.result.1.now =
+    subst (λ l. l ≡ take (length l) (take n rest)) (sym c.less_return-part.ensures) (return_front (take n rest)) ∙ take-take (length part) n rest short
+    in (
       refl,
       record {
-        next = c.line_end-end.ensures.reads ∙ at_end _ _ _ c.line_end-end.ensures.low (omega arith) (omega arith);
-        stands = ap (λ n. between pos n text) e;
-        within = omega arith;
-        fits = omega arith;
+        next = ap (lines_of pos) (sym left) ∙ at_feed pos rest n (sym c.in-Some.is ∙ c.line_end.ensures) ∙ ap (λ l. (pos, l) ∷ lines_of (pos + n + 1) (drop (n + 1) rest)) (sym c.less_return-part.ensures)
+            ∙ ap (λ l. (pos, part) ∷ lines_of (pos + n + 1) l) (ap (drop (n + 1)) left ∙ drop-drop (n + 1) pos text ∙ ap (λ k. drop k text) on);
+        stands = front_stands text rest part pos left front;
+        within = omega (arith, c.split_at.ensures.back_len, found.0);
+        fits = omega (arith, c.split_at.ensures.back_len, found.0);
         here = refl;
-        past = omega arith;
-        feed = λ h. absurd (omega arith);
+        past = omega (arith, c.split_at.ensures.back_len, found.0);
+        feed = λ _. ap (λ k. get_or text k 0) back ∙ sym (get_or-drop pos text n 0) ∙ ap (λ l. get_or l n 0) (sym left) ∙ eqb-true (get_or rest n 0) 10 found.1;
       },
     )
 
-pub returns : goal.returns
-returns c =
+pub returns-in-None : goal.returns-in-None
+returns-in-None c =
     let text = c.args.self.now.text.now in
-    let line = between c.args.self.now.pos c.line_end-end.result text in
-    let back : c.line_end-end.result + 1 - 1 ≡ c.line_end-end.result = omega arith in
-    let le : length c.less_return.result.now ≤ length line = rw c.less_return.ensures (return_le line) in (
+    let pos : ℕ = c.args.self.now.pos in
+    let rest = c.split_at.result.1.now in
+    let left = c.split_at.ensures.back in
+    let some : length c.split_at.result.1.now ≡ 0 → ⊥ = eqb-false _ 0 (sym c.if-is_empty.ensures) in (
       refl,
       record {
-        next = c.line_end-end.ensures.reads ∙ at_feed _ _ _ c.line_end-end.ensures.low (omega arith) (c.line_end-end.ensures.stops (omega arith)) ∙ cc;
-        stands = front_stands text c.less_return.result.now _ c.line_end-end.result c.line_end-end.ensures.within c.line_end-end.ensures.low (rw c.less_return.ensures (return_front line)) le;
-        within = omega (arith, length-between text c.args.self.now.pos c.line_end-end.result c.line_end-end.ensures.within);
-        fits = omega (arith, length-between text c.args.self.now.pos c.line_end-end.result c.line_end-end.ensures.within);
+        next = ap (lines_of pos) (sym left) ∙ at_end pos rest (sym c.in-None.is ∙ c.line_end.ensures) (omega arith)
+            ∙ ap (λ l. (pos, rest) ∷ l) (sym (at_drop_all (lines_from (length text) []) text (length text) (omega arith)));
+        stands = front_stands text rest rest pos left (sym (take_all (length rest) rest (omega arith)));
+        within = omega (arith, c.split_at.ensures.back_len);
+        fits = omega (arith, c.split_at.ensures.back_len);
         here = refl;
         past = omega arith;
-        feed = λ _. ap (λ n. get_or text n 0) back ∙ c.line_end-end.ensures.stops (omega arith);
+        feed = λ h. absurd (omega arith);
       },
     )

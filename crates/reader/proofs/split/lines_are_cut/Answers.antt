@@ -1,5 +1,0 @@
-use Rattle.reader.proofs.Cuts.{lines_cut}
-use Rattle.reader.proofs.split.lines_are_cut.Goals as goal
-
-pub returns : goal.returns
-returns c = lines_cut

@@ -1,5 +1,0 @@
-use Rattle.reader.proofs.Joins.{lines_join}
-use Rattle.reader.proofs.split.lines_join.Goals as goal
-
-pub returns : goal.returns
-returns c = lines_join
