@@ -1,24 +1,12 @@
 -- What the items of a message come to, one after the other.
 use Rattle.std.specs.Prelude.{ℕ, List, [], ◌∷◌, Some, None, Ok, Err, Option}
 use Rattle.merging.specs.Merging.{Sided, of_header, of_line}
-use Rattle.reader.specs.Lines.{Piece}
-use Rattle.reader.specs.declared.kind.Form.{Form}
-use Rattle.reader.specs.declared.kind.Form.TheVariants.{A, B, E}
 use Rattle.record.specs.Entries.{Entry}
 use Rattle.refusals.specs.declared.Refusal.TheVariants.{Item}
 use Rattle.events.specs.Events.{Event, logged, refused}
-use Rattle.messages.specs.Models.{Setting, Common, Reached}
+use Rattle.daylight.specs.Settings.{Setting}
+use Rattle.messages.specs.Models.{Common, Reached}
 use Rattle.messages.specs.Turns.{Turned, turn}
-
--- an item of a table's header is the header's, of another message the line's own
-abbrev pub own_item : Form → Piece → Sided
-own_item A q = of_line q
-own_item B q = of_header q
-own_item E q = of_line q
-
-abbrev pub own_items : Form → List Piece → List Sided
-own_items f [] = []
-own_items f (q ∷ qs) = own_item f q ∷ own_items f qs
 
 abbrev pub place_of : Sided → ℕ
 place_of (of_header x) = x.0

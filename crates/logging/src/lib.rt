@@ -2,42 +2,31 @@
 #![tactic(auto)]
 
 ghost use Rattle.std.specs.Prelude.{◌≡◌};
+ghost use Rattle.daylight.specs.Settings.{told};
 ghost use Rattle.events.specs.Passing.{Comes};
-ghost use Rattle.merging.specs.Merging.{sided, parts_ahead};
-ghost use Rattle.items.specs.Steps.{item_piece, items_ahead};
-ghost use Rattle.messages.specs.Models.{setting, common, reached};
+ghost use Rattle.merging.specs.Merging.{sided};
+ghost use Rattle.messages.specs.Models.{common, reached};
 ghost use Rattle.messages.specs.Turns.{turn};
 ghost use Rattle.record.specs.Entries.{entry as entry_of};
-ghost use Rattle.logging.specs.Follow.{place_of, logs, turn_then, follow, own_item, own_items};
+ghost use Rattle.logging.specs.Follow.{place_of, logs, turn_then, follow};
 ghost use Rattle.std.specs.Option.{option_map};
 
-use calendar::date::Date;
+pub mod parts;
+
+use crate::parts::Parts;
 use daylight::rule::Rule;
-use items::{Item, Items};
-use merging::{Merged, Part};
+use daylight::setting::Setting;
+use merging::Part;
 use messages::message::{Message, Progress};
-use reader::Form;
 use record::record::Record;
 use refusals::{Fault, Refusal};
 use sink::Sink;
-use slots::list::Full;
 
 fn place_of(part: Part<'_>) -> usize
     ensures { result ≡ place_of (sided part.entry) }
 {
     match part {
-        Part::Header(item) => item.place,
-        Part::Line(item) => item.place,
-    }
-}
-
-// An item of a table's header is the header's, of another message the line's own.
-fn own_part<'a>(form: Form, item: Item<'a>) -> Part<'a>
-    ensures { sided result ≡ own_item form (item_piece item.entry) }
-{
-    match form {
-        Form::B => Part::Header(item),
-        Form::A | Form::E => Part::Line(item),
+        Part::Header(item) | Part::Line(item) => item.place,
     }
 }
 
@@ -47,13 +36,7 @@ fn log<S: Sink>(sink: &mut S, record: Option<Record>, place: usize) -> Result<()
     ensures frame { S.Sink.frame sink.old sink.new }
 {
     match record {
-        Some(record) => match sink.put(record) {
-            Ok(()) => Ok(()),
-            Err(Full) => Err(Fault {
-                refusal: Refusal::NoRoom,
-                place,
-            }),
-        },
+        Some(record) => sink.put(record).map_err(|_| Refusal::NoRoom.at(place)),
         None => Ok(()),
     }
 }
@@ -63,63 +46,35 @@ fn take_part<S: Sink, R: Rule>(
     message: &Message,
     progress: Progress,
     part: Part<'_>,
-    today: Date,
-    rule: &R,
+    setting: &Setting<'_, R>,
     sink: &mut S,
 ) -> Result<Progress, Fault>
-    ensures cases { Comes result (S.Sink.holds sink.old) (S.Sink.holds sink.new) (turn_then (place_of (sided part.entry)) (turn (setting today (R.Rule.daylight rule.now)) (common message.now) (reached progress) (sided part.entry))) (λ q k. k (reached q)) }
+    ensures cases { Comes result (S.Sink.holds sink.old) (S.Sink.holds sink.new) (turn_then (place_of (sided part.entry)) (turn (told R.daylight setting.now) (common message.now) (reached progress) (sided part.entry))) (λ q k. k (reached q)) }
     ensures frame { S.Sink.frame sink.old sink.new }
 {
     let place = place_of(part);
-    match message.read_part(progress, part, today, rule) {
-        Ok(turn) => {
-            log(sink, turn.record, place)?;
-            Ok(turn.progress)
-        }
-        Err(refusal) => Err(Fault {
-            refusal: Refusal::Item(refusal),
-            place,
-        }),
-    }
+    let turn = message
+        .read_part(progress, part, setting)
+        .map_err(|refusal| refusal.at(place))?;
+    log(sink, turn.record, place)?;
+    Ok(turn.progress)
 }
 
-// The items of an opening line or a continuation.
-pub fn read_items<S: Sink, R: Rule>(
+// Reads the items that are yet to come, up to the first refusal.
+pub fn read_parts<'a, S: Sink, R: Rule, P: Parts<'a>>(
     message: &Message,
     progress: Progress,
-    items: Items<'_>,
-    today: Date,
-    rule: &R,
+    parts: P,
+    setting: &Setting<'_, R>,
     sink: &mut S,
 ) -> Result<Progress, Fault>
-    ensures cases { Comes result (S.Sink.holds sink.old) (S.Sink.holds sink.new) (follow (setting today (R.Rule.daylight rule.now)) (common message.now) (reached progress) (own_items message.now.form (items_ahead items.entry))) (λ q k. k (reached q)) }
-    ensures frame { S.Sink.frame sink.old sink.new }
-{
-    let mut progress = progress;
-    let mut items = items;
-    while let Some(item) = items.next_item() {
-        let part = own_part(message.form, item);
-        progress = take_part(message, progress, part, today, rule, sink)?;
-    }
-    Ok(progress)
-}
-
-// The items of a body line, merged with those of its header.
-pub fn read_line<S: Sink, R: Rule>(
-    message: &Message,
-    progress: Progress,
-    parts: Merged<'_>,
-    today: Date,
-    rule: &R,
-    sink: &mut S,
-) -> Result<Progress, Fault>
-    ensures cases { Comes result (S.Sink.holds sink.old) (S.Sink.holds sink.new) (follow (setting today (R.Rule.daylight rule.now)) (common message.now) (reached progress) (parts_ahead parts.entry)) (λ q k. k (reached q)) }
+    ensures cases { Comes result (S.Sink.holds sink.old) (S.Sink.holds sink.new) (follow (told R.daylight setting.now) (common message.now) (reached progress) (P.ahead parts)) (λ q k. k (reached q)) }
     ensures frame { S.Sink.frame sink.old sink.new }
 {
     let mut progress = progress;
     let mut parts = parts;
     while let Some(part) = parts.next_part() {
-        progress = take_part(message, progress, part, today, rule, sink)?;
+        progress = take_part(message, progress, part, setting, sink)?;
     }
     Ok(progress)
 }

@@ -1,7 +1,6 @@
 -- What a message has said so far, in plain numbers and texts.
 use Rattle.std.specs.Prelude.{ℕ, Bool, false, List, None, Option}
 use Rattle.std.specs.Option.{option_map}
-use Rattle.calendar.specs.declared.date.Date.{Date}
 use Rattle.daylight.specs.declared.zone.Zone.{Zone}
 use Rattle.terms.specs.Standing.{Standing, standing}
 use Rattle.quantity.specs.declared.code.Code.{Code}
@@ -10,14 +9,6 @@ use Rattle.record.specs.Entries.{Entry, entry, name}
 use Rattle.messages.specs.declared.message.Message.{Message}
 use Rattle.messages.specs.declared.message.Progress.{Progress}
 use Rattle.messages.specs.declared.message.Turn.{Turn}
-
--- what a decode is told besides the text: the current date, and the readings that are daylight
-pub record Setting : Type 0 where
-  pub today : Date
-  pub daylight : Date × ℕ → Bool
-
-abbrev pub setting : Date → (Date × ℕ → Bool) → Setting
-setting d f = record { today = d; daylight = f }
 
 -- what the records of a message, or of one line of its body, have in common
 pub record Common : Type 0 where

@@ -16,12 +16,13 @@ use Rattle.reader.specs.declared.kind.Form.TheVariants as form
 use Rattle.record.specs.Entries.{Entry}
 use Rattle.record.specs.declared.series.Series.{Series}
 use Rattle.record.specs.declared.series.Series.TheVariants.{Single, First, Later}
+use Rattle.refusals.specs.Faults.{refusal_of}
 use Rattle.refusals.specs.declared.ItemRefusal.{ItemRefusal}
-use Rattle.refusals.specs.declared.ItemRefusal.TheVariants.{DItem, Code, NoCode, NoDuration, Value, TooLarge, NoTime}
+use Rattle.refusals.specs.declared.ItemRefusal.TheVariants.{DItem, Code, NoCode, NoDuration, NoTime}
 use Rattle.values.specs.Reading.{Stated, read_value}
 use Rattle.values.specs.declared.reading.ValueFault.{ValueFault}
-use Rattle.values.specs.declared.reading.ValueFault.TheVariants as fault
-use Rattle.messages.specs.Models.{Setting, Common, Reached}
+use Rattle.daylight.specs.Settings.{Setting}
+use Rattle.messages.specs.Models.{Common, Reached}
 use Rattle.messages.specs.Ways.{then_ok}
 
 -- how far the message has then come, and the record that the item gives, if any
@@ -44,11 +45,7 @@ with_code p c = record { terms = p.terms; code = c; steps = p.steps; begun = p.b
 unfoldable pub d_item : Setting → Common → Reached → Stage → List ℕ → Turned
 d_item S m p stage item = then_ok (ok_or (after_item S.today S.daylight m.zone stage item p.terms) DItem) (λ t. silent (with_terms p t))
 
--- a value that breaks its rule is 10, one that is too large 11
-abbrev pub refusal_of : ValueFault → ItemRefusal
-refusal_of fault.Malformed = Value
-refusal_of fault.TooLarge = TooLarge
-
+-- what a value says, or its fault as the refusal of its item
 abbrev pub item_refusal : Result Stated ValueFault → Result Stated ItemRefusal
 item_refusal (Ok v) = Ok v
 item_refusal (Err f) = Err (refusal_of f)

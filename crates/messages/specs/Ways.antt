@@ -1,4 +1,4 @@
--- Results, one after the other.
+-- Results, one after the other: std's specs have these words for an Option alone.
 use Rattle.std.specs.Prelude.{Ok, Err, Result}
 
 abbrev pub then_ok : {A B E : Type 0} → Result A E → (A → Result B E) → Result B E

@@ -1,22 +1,21 @@
 // What each item of a message does.
-ghost use Rattle.std.specs.Prelude.{◌≡◌, None};
-ghost use Rattle.messages.specs.Models.{setting, fresh, common, reached, turned};
-ghost use Rattle.messages.specs.Turns.{d_item, code_read, refusal_of, item_refusal, valued, item_of_a, step_of_e, item_of_e, item_of_header, item_of_body, mark_of_step, stage_of, turn as turn_of};
+ghost use Rattle.std.specs.Prelude.{◌≡◌, false, None};
+ghost use Rattle.daylight.specs.Settings.{told};
+ghost use Rattle.messages.specs.Models.{fresh, common, reached, turned};
+ghost use Rattle.messages.specs.Turns.{d_item, code_read, valued, item_of_a, step_of_e, code_of_e, code_or_step, item_of_body, mark_of_step, stage_of, turn as turn_of};
 ghost use Rattle.terms.specs.Standing.{standing};
-ghost use Rattle.merging.specs.Merging.{sided};
+ghost use Rattle.merging.specs.Merging.{sided, is_d};
 ghost use Rattle.messages.specs.Ways.{map_ok};
 ghost use Rattle.record.specs.Entries.{entry as entry_of};
-ghost use Rattle.values.specs.Reading.{read_value, stated};
 
 use crate::message::{Message, Progress, Turn};
-use calendar::date::Date;
 use daylight::rule::Rule;
+use daylight::setting::Setting;
 use items::split_item;
 use merging::{Part, is_d_item};
 use quantity::code::Code;
 use quantity::codes::code_of;
 use quantity::parameters::parameter_of;
-use quantity::units::Units;
 use reader::Form;
 use record::record::Record;
 use record::series::Series;
@@ -24,44 +23,18 @@ use refusals::ItemRefusal;
 use terms::stage::Stage;
 use terms::terms::Terms;
 use values::read::read_value;
-use values::reading::{Quantity, ValueFault};
-
-// A value that breaks its rule and one that is too large are refused by numbers of their own.
-fn refusal_of(fault: ValueFault) -> ItemRefusal
-    ensures { result ≡ refusal_of fault }
-{
-    match fault {
-        ValueFault::Malformed => ItemRefusal::Value,
-        ValueFault::TooLarge => ItemRefusal::TooLarge,
-    }
-}
-
-fn read_quantity(value: &[u8], code: Code, units: Units) -> Result<Quantity, ItemRefusal>
-    ensures { map_ok stated result ≡ item_refusal (read_value code.signs units value.now) }
-{
-    match read_value(value, code, units) {
-        Ok(quantity) => Ok(quantity),
-        Err(fault) => Err(refusal_of(fault)),
-    }
-}
 
 fn read_code(signs: &[u8]) -> Result<Code, ItemRefusal>
     ensures { map_ok (λ c. c.signs) result ≡ code_read signs.now }
 {
-    match code_of(signs) {
-        Some(code) => Ok(code),
-        None => Err(ItemRefusal::Code),
-    }
+    code_of(signs).ok_or(ItemRefusal::Code)
 }
 
 // The first record of a message's steps begins a series, and the others go on with it.
 fn series_of(begun: bool) -> Series
     ensures { result ≡ mark_of_step begun }
 {
-    match begun {
-        true => Series::Later,
-        false => Series::First,
-    }
+    if begun { Series::Later } else { Series::First }
 }
 
 fn stage_of(steps: u64) -> Stage
@@ -95,28 +68,40 @@ impl Progress {
             record: None,
         }
     }
+
+    // A code for the next value; an empty item leaves the code as it is.
+    fn take_code(self, item: &[u8]) -> Result<Turn, ItemRefusal>
+        ensures { map_ok turned result ≡ code_of_e (reached self) item.now }
+    {
+        if item.is_empty() {
+            return Ok(self.silent());
+        }
+        let code = Some(read_code(item)?);
+        Ok(Progress { code, ..self }.silent())
+    }
 }
 
 impl Message {
     // A D item sets the terms.
+    #[tactic(auto, unfolding(crate::specs::Turns::d_item))]
     fn set_terms<R: Rule>(
         &self,
         progress: Progress,
         item: &[u8],
         stage: Stage,
-        today: Date,
-        rule: &R,
+        setting: &Setting<'_, R>,
     ) -> Result<Turn, ItemRefusal>
-        ensures { map_ok turned result ≡ d_item (setting today (R.Rule.daylight rule.now)) (common self.now) (reached progress) stage item.now }
+        ensures { map_ok turned result ≡ d_item (told R.daylight setting.now) (common self.now) (reached progress) stage item.now }
     {
-        let before = progress.terms;
-        match before.after_item(item, stage, today, self.zone, rule) {
-            Some(terms) => Ok(Progress { terms, ..progress }.silent()),
-            None => Err(ItemRefusal::DItem),
-        }
+        let terms = progress
+            .terms
+            .after_item(item, stage, self.zone, setting)
+            .ok_or(ItemRefusal::DItem)?;
+        Ok(Progress { terms, ..progress }.silent())
     }
 
     // The record that a value gives under a code.
+    #[tactic(auto, unfolding(crate::specs::Turns::valued))]
     fn record<R: Rule>(
         &self,
         terms: Terms,
@@ -124,17 +109,15 @@ impl Message {
         value: &[u8],
         series: Series,
         step: u64,
-        rule: &R,
+        setting: &Setting<'_, R>,
     ) -> Result<Record, ItemRefusal>
-        ensures { map_ok entry_of result ≡ valued (R.Rule.daylight rule.now) (common self.now) (standing terms) code.signs value.now series step }
+        ensures { map_ok entry_of result ≡ valued (told R.daylight setting.now).daylight (common self.now) (standing terms) code.signs value.now series step }
     {
-        let Some(parameter) = parameter_of(code, terms.variable) else {
-            return Err(ItemRefusal::NoDuration);
-        };
-        let quantity = read_quantity(value, code, terms.units)?;
-        let Some(observed) = terms.observed(step, self.zone, rule) else {
-            return Err(ItemRefusal::NoTime);
-        };
+        let parameter = parameter_of(code, terms.variable).ok_or(ItemRefusal::NoDuration)?;
+        let quantity = read_value(value, code, terms.units)?;
+        let observed = terms
+            .observed(step, self.zone, setting)
+            .ok_or(ItemRefusal::NoTime)?;
         Ok(Record {
             station: self.station,
             observed,
@@ -148,25 +131,23 @@ impl Message {
         })
     }
 
-    // An item of .A: nothing, a D item, or a code and a value.
+    // An item of .A that is no D item: nothing, or a code and a value.
+    #[tactic(auto, unfolding(crate::specs::Turns::item_of_a))]
     fn read_a<R: Rule>(
         &self,
         progress: Progress,
         item: &[u8],
-        today: Date,
-        rule: &R,
+        setting: &Setting<'_, R>,
     ) -> Result<Turn, ItemRefusal>
-        ensures { map_ok turned result ≡ item_of_a (setting today (R.Rule.daylight rule.now)) (common self.now) (reached progress) item.now }
+        requires { is_d item.now ≡ false }
+        ensures { map_ok turned result ≡ item_of_a (told R.daylight setting.now) (common self.now) (reached progress) item.now }
     {
         if item.is_empty() {
             return Ok(progress.silent());
         }
-        if is_d_item(item) {
-            return self.set_terms(progress, item, Stage::Free, today, rule);
-        }
         let (word, value) = split_item(item);
         let code = read_code(word)?;
-        let record = self.record(progress.terms, code, value, Series::Single, 0, rule)?;
+        let record = self.record(progress.terms, code, value, Series::Single, 0, setting)?;
         Ok(Turn {
             progress,
             record: Some(record),
@@ -174,14 +155,15 @@ impl Message {
     }
 
     // A step of .E, which may be empty.
+    #[tactic(auto, unfolding(crate::specs::Turns::step_of_e))]
     fn read_step<R: Rule>(
         &self,
         progress: Progress,
         code: Code,
         item: &[u8],
-        rule: &R,
+        setting: &Setting<'_, R>,
     ) -> Result<Turn, ItemRefusal>
-        ensures { map_ok turned result ≡ step_of_e (R.Rule.daylight rule.now) (common self.now) (reached progress) code.signs item.now }
+        ensures { map_ok turned result ≡ step_of_e (told R.daylight setting.now).daylight (common self.now) (reached progress) code.signs item.now }
     {
         let steps = progress.steps.saturating_add(1);
         if item.is_empty() {
@@ -191,7 +173,7 @@ impl Message {
             return Err(ItemRefusal::NoCode);
         }
         let series = series_of(progress.begun);
-        let record = self.record(progress.terms, code, item, series, progress.steps, rule)?;
+        let record = self.record(progress.terms, code, item, series, progress.steps, setting)?;
         Ok(Turn {
             progress: Progress {
                 steps,
@@ -202,66 +184,31 @@ impl Message {
         })
     }
 
-    // An item of .E: a D item, the code, or a step.
+    // An item of .E that is no D item: the code first, and steps behind it.
     fn read_e<R: Rule>(
         &self,
         progress: Progress,
         item: &[u8],
-        today: Date,
-        rule: &R,
+        setting: &Setting<'_, R>,
     ) -> Result<Turn, ItemRefusal>
-        ensures { map_ok turned result ≡ item_of_e (setting today (R.Rule.daylight rule.now)) (common self.now) (reached progress) item.now }
+        ensures { map_ok turned result ≡ code_or_step (told R.daylight setting.now) (common self.now) (reached progress) (reached progress).code item.now }
     {
-        if is_d_item(item) {
-            return self.set_terms(progress, item, stage_of(progress.steps), today, rule);
+        match progress.code {
+            Some(code) => self.read_step(progress, code, item, setting),
+            None => progress.take_code(item),
         }
-        if let Some(code) = progress.code {
-            return self.read_step(progress, code, item, rule);
-        }
-        if item.is_empty() {
-            return Ok(progress.silent());
-        }
-        let code = read_code(item)?;
-        Ok(Progress {
-            code: Some(code),
-            ..progress
-        }
-        .silent())
     }
 
-    // An item of a .B header: nothing, a D item, or a code for the line's next value.
-    fn read_header<R: Rule>(
-        &self,
-        progress: Progress,
-        item: &[u8],
-        today: Date,
-        rule: &R,
-    ) -> Result<Turn, ItemRefusal>
-        ensures { map_ok turned result ≡ item_of_header (setting today (R.Rule.daylight rule.now)) (common self.now) (reached progress) item.now }
-    {
-        if item.is_empty() {
-            return Ok(progress.silent());
-        }
-        if is_d_item(item) {
-            return self.set_terms(progress, item, Stage::Free, today, rule);
-        }
-        let code = read_code(item)?;
-        Ok(Progress {
-            code: Some(code),
-            ..progress
-        }
-        .silent())
-    }
-
-    // An item of a .B body line: a D item, or a value or an empty item, which use up the code.
+    // An item of a .B body line that is no D item: a value or an empty item, which use up the code.
+    #[tactic(auto, unfolding(crate::specs::Turns::item_of_body))]
     fn read_body<R: Rule>(
         &self,
         progress: Progress,
         item: &[u8],
-        today: Date,
-        rule: &R,
+        setting: &Setting<'_, R>,
     ) -> Result<Turn, ItemRefusal>
-        ensures { map_ok turned result ≡ item_of_body (setting today (R.Rule.daylight rule.now)) (common self.now) (reached progress) item.now }
+        requires { is_d item.now ≡ false }
+        ensures { map_ok turned result ≡ item_of_body (told R.daylight setting.now) (common self.now) (reached progress) item.now }
     {
         let used = Progress {
             code: None,
@@ -270,34 +217,35 @@ impl Message {
         if item.is_empty() {
             return Ok(used.silent());
         }
-        if is_d_item(item) {
-            return self.set_terms(progress, item, Stage::Free, today, rule);
-        }
-        let Some(code) = progress.code else {
-            return Err(ItemRefusal::NoCode);
-        };
-        let record = self.record(progress.terms, code, item, Series::Single, 0, rule)?;
+        let code = progress.code.ok_or(ItemRefusal::NoCode)?;
+        let record = self.record(progress.terms, code, item, Series::Single, 0, setting)?;
         Ok(Turn {
             progress: used,
             record: Some(record),
         })
     }
 
-    // What an item does, by the form of the message and whose item it is.
+    // What an item does: a D item by its stage, any other by the form of the message and whose item it is.
+    #[tactic(auto, unfolding(crate::specs::Turns::item_of_a, crate::specs::Turns::item_of_body, crate::specs::Turns::item_of_header, crate::specs::Turns::item_of_e))]
     pub fn read_part<R: Rule>(
         &self,
         progress: Progress,
         part: Part<'_>,
-        today: Date,
-        rule: &R,
+        setting: &Setting<'_, R>,
     ) -> Result<Turn, ItemRefusal>
-        ensures { map_ok turned result ≡ turn_of (setting today (R.Rule.daylight rule.now)) (common self.now) (reached progress) (sided part.entry) }
+        ensures { map_ok turned result ≡ turn_of (told R.daylight setting.now) (common self.now) (reached progress) (sided part.entry) }
     {
         match (part, self.form) {
-            (Part::Header(item), _) => self.read_header(progress, item.part, today, rule),
-            (Part::Line(item), Form::A) => self.read_a(progress, item.part, today, rule),
-            (Part::Line(item), Form::B) => self.read_body(progress, item.part, today, rule),
-            (Part::Line(item), Form::E) => self.read_e(progress, item.part, today, rule),
+            (Part::Line(item), Form::E) if is_d_item(item.part) => {
+                self.set_terms(progress, item.part, stage_of(progress.steps), setting)
+            }
+            (Part::Header(item) | Part::Line(item), _) if is_d_item(item.part) => {
+                self.set_terms(progress, item.part, Stage::Free, setting)
+            }
+            (Part::Header(item), _) => progress.take_code(item.part),
+            (Part::Line(item), Form::A) => self.read_a(progress, item.part, setting),
+            (Part::Line(item), Form::B) => self.read_body(progress, item.part, setting),
+            (Part::Line(item), Form::E) => self.read_e(progress, item.part, setting),
         }
     }
 }

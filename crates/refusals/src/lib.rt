@@ -1,8 +1,13 @@
 // Why something was not read, and where: one enum over all refusals, by the layer that refuses.
 #![tactic(auto)]
 
-ghost use Rattle.std.specs.Prelude.{◌≡◌};
+ghost use Rattle.std.specs.Prelude.{◌≡◌, Some};
+ghost use Rattle.refusals.specs.Faults.{fault_text, refusal_of};
 ghost use Rattle.refusals.specs.Numbers.{number_of, layer_of};
+ghost use Rattle.refusals.specs.declared.Refusal.TheVariants as refusal;
+
+use std::fmt;
+use values::reading::ValueFault;
 
 // A line of a message, or one of its fields.
 #[derive(Clone, Copy, PartialEq, Eq)]
@@ -49,19 +54,64 @@ pub struct Fault {
     pub place: usize,
 }
 
+// A value that breaks its rule and one that is too large are refused by numbers of their own.
+impl From<ValueFault> for ItemRefusal {
+    ghost from_gives = { λ fault r. r ≡ refusal_of fault };
+
+    fn from(fault: ValueFault) -> ItemRefusal {
+        match fault {
+            ValueFault::Malformed => ItemRefusal::Value,
+            ValueFault::TooLarge => ItemRefusal::TooLarge,
+        }
+    }
+}
+
+impl From<MessageRefusal> for Refusal {
+    ghost from_gives = { λ of_message r. r ≡ refusal.Message of_message };
+
+    fn from(of_message: MessageRefusal) -> Refusal {
+        Refusal::Message(of_message)
+    }
+}
+
+impl From<ItemRefusal> for Refusal {
+    ghost from_gives = { λ of_item r. r ≡ refusal.Item of_item };
+
+    fn from(of_item: ItemRefusal) -> Refusal {
+        Refusal::Item(of_item)
+    }
+}
+
+// `at` stands at each layer, since a trait's method would have to be imported wherever a line or an item is refused.
 impl MessageRefusal {
     // The fault of this refusal at a place.
     pub fn at(self, place: usize) -> Fault
         ensures { result ≡ record { refusal = Refusal.Message self; place = place } }
     {
-        Fault {
-            refusal: Refusal::Message(self),
-            place,
-        }
+        Refusal::from(self).at(place)
+    }
+}
+
+impl ItemRefusal {
+    // The fault of this refusal at a place.
+    pub fn at(self, place: usize) -> Fault
+        ensures { result ≡ record { refusal = Refusal.Item self; place = place } }
+    {
+        Refusal::from(self).at(place)
     }
 }
 
 impl Refusal {
+    // The fault of this refusal at a place.
+    pub fn at(self, place: usize) -> Fault
+        ensures { result ≡ record { refusal = self; place = place } }
+    {
+        Fault {
+            refusal: self,
+            place,
+        }
+    }
+
     // The number by which users know it.
     pub fn number(self) -> u8
         ensures { result ≡ number_of self }
@@ -93,5 +143,16 @@ impl Refusal {
             Refusal::Item(_) => Layer::Item,
             Refusal::NoRoom => Layer::Sink,
         }
+    }
+}
+
+// The number and the place, as users read them.
+impl fmt::Display for Fault {
+    ghost output = { λ fault. Some (fault_text fault) };
+
+    fn fmt<W: fmt::Write>(&self, f: &mut fmt::Formatter<W>) -> fmt::Result {
+        let number = self.refusal.number();
+        let place = self.place;
+        write!(f, "{number} {place}")
     }
 }

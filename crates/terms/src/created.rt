@@ -1,14 +1,16 @@
 // Creation times, as DC items write them.
-ghost use Rattle.std.specs.Prelude.{◌≡◌, ℕ, ◌≤◌, IfSome};
+ghost use Rattle.std.specs.Prelude.{◌≡◌, ◌≤◌, IfSome};
 ghost use Rattle.std.specs.Option.{option_map};
-ghost use Rattle.calendar.specs.declared.date.Date.{Date};
+ghost use Rattle.instants.specs.Moments.{minute_of};
+ghost use Rattle.daylight.specs.Settings.{told};
 ghost use Rattle.terms.specs.Created.{date_length, created_reading, created_of};
 
 use calendar::date::Date;
 use calendar::message::message_date;
 use daylight::rule::Rule;
+use daylight::setting::Setting;
 use daylight::utc::to_utc;
-use daylight::zone::{Zone, is_saving};
+use daylight::zone::Zone;
 use ditems::groups::{Group, Groups};
 use ditems::readings::reading_of;
 use ditems::times::set_groups;
@@ -28,6 +30,7 @@ fn date_length(digits: usize) -> Option<usize>
 }
 
 // The date, and an hour or an hour and a minute on it.
+#[tactic(auto, unfolding(crate::specs::Created::created_reading))]
 fn created_reading(today: Date, digits: &[u8]) -> Option<(Date, u32)>
     ensures { result ≡ created_reading today digits.now }
 {
@@ -37,11 +40,12 @@ fn created_reading(today: Date, digits: &[u8]) -> Option<(Date, u32)>
 }
 
 // Daylight is decided on the creation time's own reading.
-pub fn created_of<R: Rule>(digits: &[u8], today: Date, zone: Zone, rule: &R) -> Option<UtcMinute>
-    ensures { option_map {U = Date × ℕ} (λ m. (m.date, m.minute)) result ≡ created_of today (R.Rule.daylight rule.now) zone digits.now }
+#[tactic(auto, unfolding(crate::specs::Created::created_of))]
+pub fn created_of<R: Rule>(digits: &[u8], zone: Zone, setting: &Setting<'_, R>) -> Option<UtcMinute>
+    ensures { let S = told R.daylight setting.now in option_map minute_of result ≡ created_of S.today S.daylight zone digits.now }
 {
-    let reading = created_reading(today, digits)?;
-    let saving = is_saving(rule, zone, reading);
+    let reading = created_reading(setting.today, digits)?;
+    let saving = setting.is_saving(zone, reading);
     let time = to_utc(reading, zone, saving)?;
     Some(time.to_minute())
 }

@@ -1,8 +1,6 @@
 // Laws of the terms and of observation times.
 ghost use Rattle.terms.specs.TermLaws.{TermLaws};
 
-pub fn term_laws() -> u8
+pub fn term_laws()
     ensures { TermLaws }
-{
-    0
-}
+{}

@@ -16,18 +16,12 @@ impl Stage {
     pub(crate) fn is_before_steps(self) -> bool
         ensures { result ≡ before_steps self }
     {
-        match self {
-            Stage::BeforeSteps => true,
-            Stage::Free | Stage::AmongSteps => false,
-        }
+        self == Stage::BeforeSteps
     }
 
     pub(crate) fn is_among_steps(self) -> bool
         ensures { result ≡ among_steps self }
     {
-        match self {
-            Stage::AmongSteps => true,
-            Stage::Free | Stage::BeforeSteps => false,
-        }
+        self == Stage::AmongSteps
     }
 }

@@ -10,6 +10,7 @@ use instants::utc_minute::UtcMinute;
 use quantity::units::Units;
 use quantity::variable::Variable;
 
+// Clauses see them by `standing`. A Model of a type that is Copy gives back the fields, and plain numbers do not say that they are in range.
 #[derive(Clone, Copy)]
 pub struct Terms {
     pub groups: Groups,

@@ -1,2 +1,0 @@
-pub mod Ways
-pub mod Items
