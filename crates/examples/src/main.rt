@@ -16,9 +16,7 @@ mod worked;
 
 fn date_line(out: Stdout, example: &str, found: Option<Date>) -> io::Result<()> {
     match found {
-        Some(Date { year, month, day }) => {
-            println!(out; "{example}: {year:04}-{month:02}-{day:02}")
-        }
+        Some(date) => println!(out; "{example}: {date}"),
         None => println!(out; "{example}: none"),
     }
 }
@@ -27,9 +25,9 @@ fn time_line(out: Stdout, example: &str, found: Option<UtcTime>) -> io::Result<(
     let Some(time) = found else {
         return println!(out; "{example}: none");
     };
-    let Date { year, month, day } = time.date;
+    let date = time.date;
     let (hour, minute) = (time.second / 3600, time.second / 60 % 60);
-    println!(out; "{example}: {year:04}-{month:02}-{day:02} {hour:02}:{minute:02}")
+    println!(out; "{example}: {date} {hour:02}:{minute:02}")
 }
 
 // A value under SI, in ten-thousandths of the English unit.

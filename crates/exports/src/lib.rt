@@ -10,12 +10,12 @@ ghost use Rattle.std.specs.List.{flat_map};
 
 use calendar::date::Date;
 use daylight::law_rule::LawRule;
-use refusals::{Fault, Refusal};
+use refusals::Refusal;
 use shef::decode::decode;
 use sink::listing::Listing;
 use slots::list::Slots;
 
-// What a decode answers: 0, 1 or 14, the records delivered and the faults found.
+// What a decode answers: 0, 1 or 14, the records delivered and the faults found. The number stands for the ending, as C reads it.
 #[repr(C)]
 #[derive(Clone, Copy)]
 pub struct Outcome {
@@ -39,17 +39,13 @@ pub extern "C" fn shef_decode(
     ensures delivered { result.delivered ≡ delivered_of (length bytes.old / 80) (decoded (lawful year month day) text.now) }
     ensures found { result.found ≡ counted (length (met (length bytes.old / 80) (decoded (lawful year month day) text.now))) }
 {
-    let none = Fault {
-        refusal: Refusal::NoRoom,
-        place: 0,
-    };
-    let mut places = [none; 0];
+    let mut places = [Refusal::NoRoom.at(0); 0];
     let mut log = Listing::new(bytes);
     let mut faults = Slots::new(&mut places);
     let today = Date { year, month, day };
     let answer = decode(text, today, &LawRule, &mut log, &mut faults);
     Outcome {
-        number: answer.number,
+        number: answer.ending.number(),
         delivered: answer.delivered,
         found: answer.found,
     }

@@ -21,7 +21,7 @@ use Rattle.reader.specs.Lines.{Piece}
 use Rattle.reader.specs.declared.kind.Continuation.{Continuation as Number}
 use Rattle.reader.specs.declared.kind.Form.{Form}
 use Rattle.reader.specs.declared.kind.Form.TheVariants.{A, B, E}
-use Rattle.logging.specs.Follow.{own_item, own_items}
+use Rattle.logging.specs.Own.{own_item, own_items}
 use Rattle.text.specs.Signs.{digit, pair_of}
 use Rattle.joining.proofs.InsideTurns.{Ends, PartEnds}
 

@@ -17,9 +17,10 @@ use Rattle.refusals.specs.declared.MessageRefusal.TheVariants as why
 use Rattle.refusals.specs.declared.Refusal.TheVariants.{Message}
 use Rattle.terms.specs.Standing.{Standing}
 use Rattle.events.specs.Events.{Event, fault, refused}
-use Rattle.messages.specs.Models.{Setting, Common, Reached}
+use Rattle.daylight.specs.Settings.{Setting}
+use Rattle.messages.specs.Models.{Common, Reached}
 use Rattle.openings.specs.Openings.{Opened, field, opened}
-use Rattle.logging.specs.Follow.{own_items}
+use Rattle.logging.specs.Own.{own_items}
 use Rattle.stages.specs.Stages.{Stage, outside, skipping, header, body, Moved, onto, reads, refuses, is_table, opens_to, begins, continues_as, continues, line_of, body_line, in_body, behind, in_header, pass_over, in_stage, by_kind, next, came, closing, within}
 use Rattle.shef.specs.Texts.{is_opening, Stretch, on_front, cut, end_of, stretch, stretches}
 use Rattle.joining.specs.Inside.{Inside, PlacesInside}

@@ -7,7 +7,8 @@ use Rattle.reader.specs.declared.kind.Form.{Form}
 use Rattle.reader.specs.declared.kind.Form.TheVariants.{A, B, E}
 use Rattle.record.specs.Entries.{Entry}
 use Rattle.events.specs.Events.{Event}
-use Rattle.messages.specs.Models.{Setting, Common, Reached}
+use Rattle.daylight.specs.Settings.{Setting}
+use Rattle.messages.specs.Models.{Common, Reached}
 use Rattle.messages.specs.Turns.{Turned, code_or_step, step_of_e, item_of_a, item_of_e, item_of_header, item_of_body, item_of_line}
 use Rattle.logging.specs.Follow.{logs, turn_then, follow}
 use Rattle.joining.specs.Inside.{Inside}

@@ -5,7 +5,7 @@ use Rattle.std.proofs.lemmas.Bool.{true≢false}
 use Rattle.reader.specs.Lines.{Piece, last_line, less_return, lines, lines_from, shifted}
 use Rattle.reader.proofs.Joins.{lines_join}
 use Rattle.events.specs.Events.{Event, logged, refused}
-use Rattle.messages.specs.Models.{Setting}
+use Rattle.daylight.specs.Settings.{Setting}
 use Rattle.stages.specs.Stages.{outside}
 use Rattle.shef.specs.Texts.{to_come, events}
 use Rattle.joining.specs.Joining.{shifted_events, EndsLine, empty, feed, opens_first, TextsJoin}

@@ -14,9 +14,11 @@ use Rattle.reader.specs.declared.kind.Form.{Form}
 use Rattle.reader.specs.declared.kind.Form.TheVariants.{A, B, E}
 use Rattle.record.specs.Entries.{Entry}
 use Rattle.events.specs.Events.{Event, logged}
-use Rattle.messages.specs.Models.{Setting, Common, Reached}
+use Rattle.daylight.specs.Settings.{Setting}
+use Rattle.messages.specs.Models.{Common, Reached}
 use Rattle.messages.specs.Turns.{Turned, item_of_header, item_of_line}
-use Rattle.logging.specs.Follow.{logs, turn_then, follow, own_item, own_items}
+use Rattle.logging.specs.Follow.{logs, turn_then, follow}
+use Rattle.logging.specs.Own.{own_item, own_items}
 use Rattle.joining.specs.Joining.{shifted_events}
 
 pub map_join : {X Y : Type 0} (f : X → Y) (xs ys : List X) → map f (xs ++ ys) ≡ map f xs ++ map f ys

@@ -3,7 +3,7 @@ use Rattle.std.proofs.Common.{◌≡◌, ℕ, true, false, List, [], ◌∷◌, 
 use Rattle.reader.specs.Kinds.{kind_of}
 use Rattle.reader.specs.Lines.{Piece}
 use Rattle.events.specs.Events.{Event}
-use Rattle.messages.specs.Models.{Setting}
+use Rattle.daylight.specs.Settings.{Setting}
 use Rattle.stages.specs.Stages.{Stage, outside, within}
 use Rattle.shef.specs.Texts.{is_opening, Stretch, on_front, cut, end_of, stretch, stretches, to_come}
 

@@ -2,7 +2,7 @@
 use Rattle.std.specs.Prelude.{ℕ, ◌<◌, ◌≤◌, List, length}
 use Rattle.std.specs.List.{AllByRecursion}
 use Rattle.events.specs.Events.{Event, logged, refused}
-use Rattle.messages.specs.Models.{Setting}
+use Rattle.daylight.specs.Settings.{Setting}
 use Rattle.shef.specs.Texts.{events}
 
 -- in a text that ends at e a record has a byte to stand at, and a refusal has one or stands at the end

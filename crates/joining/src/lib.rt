@@ -5,15 +5,11 @@ ghost use Rattle.joining.specs.Inside.{PlacesInside};
 ghost use Rattle.joining.specs.Joining.{TextsJoin};
 
 // A text that begins with an opening reads alike alone and behind another text that ends a line.
-pub fn texts_join() -> u8
+pub fn texts_join()
     ensures { TextsJoin }
-{
-    0
-}
+{}
 
 // Every record has a byte of the text for its place, and every refusal one or the text's end.
-pub fn places_lie_inside() -> u8
+pub fn places_lie_inside()
     ensures { PlacesInside }
-{
-    0
-}
+{}

@@ -12,7 +12,8 @@ use Rattle.refusals.specs.declared.Refusal.TheVariants.{Message}
 use Rattle.terms.specs.Standing.{Standing}
 use Rattle.events.specs.Events.{Event, fault}
 use Rattle.events.specs.Room.{refusals}
-use Rattle.messages.specs.Models.{Setting, Common, Reached}
+use Rattle.daylight.specs.Settings.{Setting}
+use Rattle.messages.specs.Models.{Common, Reached}
 use Rattle.openings.specs.Openings.{field}
 use Rattle.stages.specs.Stages.{Stage, outside, header, body, is_table, onto, refuses, line_of, body_line, in_body, by_kind, came, within}
 use Rattle.laws.specs.Tables.{body_events, Plain, Reads, BodyLines}

@@ -19,10 +19,12 @@ use Rattle.terms.specs.declared.stage.Stage.{Stage}
 use Rattle.terms.specs.declared.stage.Stage.TheVariants.{Free}
 use Rattle.events.specs.Events.{Event, refused}
 use Rattle.events.specs.Passing.{logged_all}
-use Rattle.messages.specs.Models.{Setting, Common, Reached, fresh}
+use Rattle.daylight.specs.Settings.{Setting}
+use Rattle.messages.specs.Models.{Common, Reached, fresh}
 use Rattle.messages.specs.Turns.{Turned, silent, is_empty, with_terms, d_item, code_read, valued, gives, item_of_a, next_step, mark_of_step, step_of_e, stage_of, code_or_step, item_of_e, item_of_header, item_of_body, item_of_line, turn}
 use Rattle.messages.specs.Ways.{then_ok}
-use Rattle.logging.specs.Follow.{place_of, logs, turn_then, follow, own_items}
+use Rattle.logging.specs.Follow.{place_of, logs, turn_then, follow}
+use Rattle.logging.specs.Own.{own_items}
 use Rattle.stages.specs.Stages.{is_table}
 use Rattle.laws.specs.Readings.{plain_items, readings_in, Accounted}
 

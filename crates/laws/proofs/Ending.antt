@@ -13,7 +13,7 @@ use Rattle.events.specs.Events.{Event, fault, refused, records}
 use Rattle.events.specs.Passing.{logged_all}
 use Rattle.events.specs.Room.{refusals}
 use Rattle.events.proofs.Passes.{logged_append}
-use Rattle.messages.specs.Models.{Setting}
+use Rattle.daylight.specs.Settings.{Setting}
 use Rattle.stages.specs.Stages.{Stage, outside, skipping, header, body, is_table, by_kind, next, came, closing, within}
 use Rattle.shef.specs.Texts.{is_opening, Stretch, cut, end_of, stretch, stretches, events}
 use Rattle.laws.specs.Endings.{lastly, EndsOnce, OneRefusal}

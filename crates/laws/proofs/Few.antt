@@ -9,7 +9,7 @@ use Rattle.refusals.specs.declared.Fault.{Fault}
 use Rattle.refusals.specs.declared.Refusal.TheVariants.{CurrentDate}
 use Rattle.events.specs.Events.{Event, logged, refused, met}
 use Rattle.events.specs.Passing.{logged_all}
-use Rattle.messages.specs.Models.{Setting}
+use Rattle.daylight.specs.Settings.{Setting}
 use Rattle.stages.specs.Stages.{outside, within}
 use Rattle.shef.specs.Texts.{is_opening, Stretch, on_front, cut, end_of, stretch, stretches, events}
 use Rattle.shef.specs.Decodes.{counted, decoded}

@@ -24,10 +24,12 @@ use Rattle.terms.specs.Items.{after_item}
 use Rattle.terms.specs.Standing.{Standing}
 use Rattle.events.specs.Events.{Event, fault}
 use Rattle.events.specs.Room.{refusals}
-use Rattle.messages.specs.Models.{Setting, Common, Reached, fresh}
+use Rattle.daylight.specs.Settings.{Setting}
+use Rattle.messages.specs.Models.{Common, Reached, fresh}
 use Rattle.messages.specs.Turns.{Turned, silent, is_empty, with_terms, with_code, d_item, code_read, item_of_header, turn}
 use Rattle.messages.specs.Ways.{then_ok}
-use Rattle.logging.specs.Follow.{logs, turn_then, follow, own_items}
+use Rattle.logging.specs.Follow.{logs, turn_then, follow}
+use Rattle.logging.specs.Own.{own_items}
 use Rattle.openings.specs.Openings.{placed_word, word_at, field}
 use Rattle.stages.specs.Stages.{onto, refuses, body, of_station, line_of, body_line, came}
 use Rattle.laws.specs.Headings.{HeaderRead, StandsAt, HeadersHold}

@@ -8,7 +8,7 @@ use Rattle.reader.specs.declared.kind.LineKind.{LineKind}
 use Rattle.reader.specs.declared.kind.LineKind.TheVariants.{Opening, Continuation, End, Dotted, Other}
 use Rattle.events.specs.Events.{Event}
 use Rattle.events.specs.Room.{refusals}
-use Rattle.messages.specs.Models.{Setting}
+use Rattle.daylight.specs.Settings.{Setting}
 use Rattle.stages.specs.Stages.{Stage, outside, skipping, by_kind, next, came, within}
 use Rattle.shef.specs.Texts.{is_opening, Stretch, on_front, cut, end_of, stretches, to_come, events}
 use Rattle.laws.specs.Outside.{NoOpening, NoContinuation, alone, LinesOutside}

@@ -7,7 +7,8 @@ use Rattle.refusals.specs.declared.Refusal.TheVariants.{Item}
 use Rattle.events.specs.Events.{Event, fault, logged, refused}
 use Rattle.events.specs.Passing.{logged_all}
 use Rattle.events.specs.Room.{refusals}
-use Rattle.messages.specs.Models.{Setting, Common, Reached}
+use Rattle.daylight.specs.Settings.{Setting}
+use Rattle.messages.specs.Models.{Common, Reached}
 use Rattle.messages.specs.Turns.{Turned, turn}
 use Rattle.logging.specs.Follow.{place_of, logs, turn_then, follow}
 use Rattle.stages.specs.Stages.{Stage, Moved, onto, reads, refuses, came}

@@ -24,10 +24,12 @@ use Rattle.terms.specs.Standing.{Standing}
 use Rattle.events.specs.Events.{Event, fault, logged, refused, records}
 use Rattle.events.specs.Passing.{logged_all}
 use Rattle.events.specs.Room.{refusals}
-use Rattle.messages.specs.Models.{Setting, Common, Reached, fresh}
+use Rattle.daylight.specs.Settings.{Setting}
+use Rattle.messages.specs.Models.{Common, Reached, fresh}
 use Rattle.messages.specs.Turns.{is_empty}
 use Rattle.messages.specs.Ways.{then_ok}
-use Rattle.logging.specs.Follow.{place_of, follow, own_items}
+use Rattle.logging.specs.Follow.{place_of, follow}
+use Rattle.logging.specs.Own.{own_items}
 use Rattle.openings.specs.Openings.{Opened, field, opened}
 use Rattle.stages.specs.Stages.{Stage, outside, skipping, header, body, onto, reads, refuses, is_table, opens_to, begins, continues_as, continues, of_station, line_of, body_line, in_body, by_kind, came, closing, within}
 use Rattle.shef.specs.Texts.{is_opening, Stretch, on_front, cut, end_of, stretch, stretches, events}

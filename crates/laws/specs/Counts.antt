@@ -2,7 +2,7 @@
 use Rattle.std.specs.Prelude.{◌≡◌, ℕ, ◌^◌, ◌<◌, ◌≤◌, List, length}
 use Rattle.reader.specs.Lines.{lines}
 use Rattle.events.specs.Events.{met}
-use Rattle.messages.specs.Models.{Setting}
+use Rattle.daylight.specs.Settings.{Setting}
 use Rattle.shef.specs.Texts.{events}
 use Rattle.shef.specs.Decodes.{counted, decoded}
 

@@ -6,7 +6,7 @@ use Rattle.refusals.specs.declared.Fault.{Fault}
 use Rattle.events.specs.Events.{Event, refused, records}
 use Rattle.events.specs.Passing.{logged_all}
 use Rattle.events.specs.Room.{refusals}
-use Rattle.messages.specs.Models.{Setting}
+use Rattle.daylight.specs.Settings.{Setting}
 use Rattle.stages.specs.Stages.{outside, within}
 use Rattle.shef.specs.Texts.{Stretch, cut, stretch, events}
 

@@ -10,8 +10,10 @@ use Rattle.terms.specs.declared.stage.Stage.TheVariants.{Free}
 use Rattle.terms.specs.Items.{after_item}
 use Rattle.terms.specs.Standing.{Standing}
 use Rattle.events.specs.Room.{refusals}
-use Rattle.messages.specs.Models.{Setting, Common, Reached, fresh}
-use Rattle.logging.specs.Follow.{follow, own_items}
+use Rattle.daylight.specs.Settings.{Setting}
+use Rattle.messages.specs.Models.{Common, Reached, fresh}
+use Rattle.logging.specs.Follow.{follow}
+use Rattle.logging.specs.Own.{own_items}
 use Rattle.stages.specs.Stages.{of_station}
 use Rattle.laws.specs.Tables.{body_events}
 

@@ -5,7 +5,7 @@ use Rattle.reader.specs.Kinds.{kind_of, is_continuation}
 use Rattle.reader.specs.Lines.{Piece, lines}
 use Rattle.events.specs.Events.{Event}
 use Rattle.events.specs.Room.{refusals}
-use Rattle.messages.specs.Models.{Setting}
+use Rattle.daylight.specs.Settings.{Setting}
 use Rattle.stages.specs.Stages.{Stage, outside, skipping, next, came, within}
 use Rattle.shef.specs.Texts.{is_opening, cut, stretches, to_come, events}
 

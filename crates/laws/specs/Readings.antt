@@ -20,9 +20,11 @@ use Rattle.terms.specs.Standing.{Standing}
 use Rattle.events.specs.Events.{Event, refused, records}
 use Rattle.events.specs.Passing.{logged_all}
 use Rattle.events.specs.Room.{refusals}
-use Rattle.messages.specs.Models.{Setting, Common, fresh}
+use Rattle.daylight.specs.Settings.{Setting}
+use Rattle.messages.specs.Models.{Common, fresh}
 use Rattle.messages.specs.Turns.{is_empty}
-use Rattle.logging.specs.Follow.{place_of, follow, own_items}
+use Rattle.logging.specs.Follow.{place_of, follow}
+use Rattle.logging.specs.Own.{own_items}
 use Rattle.openings.specs.Openings.{Opened, field, opened}
 use Rattle.stages.specs.Stages.{is_table}
 use Rattle.shef.specs.Texts.{is_opening, Stretch, cut, stretch, events}

@@ -7,7 +7,8 @@ use Rattle.reader.specs.declared.kind.LineKind.TheVariants.{End, Other}
 use Rattle.terms.specs.Standing.{Standing}
 use Rattle.events.specs.Events.{Event}
 use Rattle.events.specs.Room.{refusals}
-use Rattle.messages.specs.Models.{Setting, Common, Reached}
+use Rattle.daylight.specs.Settings.{Setting}
+use Rattle.messages.specs.Models.{Common, Reached}
 use Rattle.stages.specs.Stages.{outside, header, body, is_table, body_line, came, within}
 
 -- what a body line comes to by itself: of its message it is told what the records have in common, the terms of the opening and

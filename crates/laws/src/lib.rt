@@ -9,43 +9,31 @@ ghost use Rattle.laws.specs.Readings.{RecordsAreReadings};
 ghost use Rattle.laws.specs.Tables.{BodyLines};
 
 // Lines outside messages that are no continuation give nothing, and neither does what follows a refusal up to the next opening.
-pub fn lines_outside_add_nothing() -> u8
+pub fn lines_outside_add_nothing()
     ensures { LinesOutside }
-{
-    0
-}
+{}
 
 // A message comes to records and then at most one refusal.
-pub fn one_refusal_a_message() -> u8
+pub fn one_refusal_a_message()
     ensures { OneRefusal }
-{
-    0
-}
+{}
 
 // A body line of a table starts from the opening's terms, whatever stood on the lines before it.
-pub fn body_lines_start_anew() -> u8
+pub fn body_lines_start_anew()
     ensures { BodyLines }
-{
-    0
-}
+{}
 
 // Each reading of a text of which nothing is refused comes to one record, and each record of one reading.
-pub fn records_are_readings() -> u8
+pub fn records_are_readings()
     ensures { RecordsAreReadings }
-{
-    0
-}
+{}
 
 // A text has no more faults than lines, so their count is exact.
-pub fn faults_are_counted() -> u8
+pub fn faults_are_counted()
     ensures { FaultsCounted }
-{
-    0
-}
+{}
 
 // A body line of a table is never refused for the sake of a header that was read, though its items meet other terms there.
-pub fn headers_never_fail_again() -> u8
+pub fn headers_never_fail_again()
     ensures { HeadersHold }
-{
-    0
-}
+{}

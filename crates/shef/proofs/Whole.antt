@@ -1,5 +1,5 @@
 -- A text, line after line.
-use Rattle.std.proofs.Common.{◌≡◌, ℕ, ◌+◌, ◌-◌, true, false, cond, List, [], ◌∷◌, ◌++◌, length, take, sym, refl, ap, ◌∙◌, subst, ⊎_elim, append_assoc, arith, length-append}
+use Rattle.std.proofs.Common.{◌≡◌, ◌<◌, ◌^◌, ℕ, ◌+◌, ◌-◌, true, false, cond, List, [], ◌∷◌, ◌++◌, length, take, sym, refl, ap, ◌∙◌, subst, ⊎_elim, append_assoc, arith, length-append}
 use Rattle.std.proofs.lemmas.Bool.{cond-true, cond-false, cases_Bool, true≢false}
 use Rattle.record.specs.Entries.{Entry}
 use Rattle.reader.specs.Kinds.{kind_of}
@@ -16,10 +16,10 @@ use Rattle.events.specs.Events.{Event, fault, logged, refused, records}
 use Rattle.events.specs.Passing.{Passed, Stopped, StopsAt, Full, logged_all}
 use Rattle.events.specs.Room.{refusals}
 use Rattle.events.proofs.Going.{Going, Done, begun, renamed, passed, refusing, ended, filled}
-use Rattle.messages.specs.Models.{Setting}
+use Rattle.daylight.specs.Settings.{Setting}
 use Rattle.shef.specs.Answers.{Read}
-use Rattle.shef.specs.Decodes.{counted, ends_here}
-use Rattle.shef.specs.declared.decode.Answer.{Answer}
+use Rattle.shef.specs.Decodes.{counted, ends_here, ending_number}
+use Rattle.shef.specs.declared.decode.Ending.{Ending}
 use Rattle.stages.specs.Stages.{Stage, outside, skipping, header, body, by_kind, next, came, closing, within, is_table}
 use Rattle.shef.specs.Texts.{is_opening, Stretch, on_front, cut, end_of, stretches, to_come}
 
@@ -102,6 +102,10 @@ turn_begun = record { count = 0; going = begun; is = refl }
 pub turn_renamed : {l m : Log Entry} {f g : Log Fault} {all rest other : List Event} {found : ℕ} → Turning l m f g all rest found → rest ≡ other → Turning l m f g all other found
 turn_renamed T e = record { count = T.count; going = renamed T.going e; is = T.is }
 
+-- nothing more is counted
+pub counts_none : (k : ℕ) → k < 2 ^ 64 → k ≡ counted (k + 0)
+counts_none k h = omega arith
+
 counts_on : (k n : ℕ) → counted (counted k + n) ≡ counted (k + n)
 counts_on k n = omega arith
 
@@ -142,22 +146,21 @@ module _ {K : Type 0} {l m n : Log Entry} {f g h : Log Fault} {all : List Event}
       (T1.count + 1, filled G full.none put_is, em ∙ ap (λ y. counted (y + 1)) T1.is ∙ counts_on T1.count 1)
 
 -- how many records went in
-sent_is : (l m : Log Entry) (xs : List Entry) → m ≡ put_all l xs → length m.entries - length l.entries ≡ length (take l.room xs)
+pub sent_is : (l m : Log Entry) (xs : List Entry) → m ≡ put_all l xs → length m.entries - length l.entries ≡ length (take l.room xs)
 sent_is l m xs e =
     let d : length m.entries ≡ length (l.entries ++ take l.room xs) = ap (λ (x : Log Entry). length x.entries) (e ∙ takes_in Entry l.entries l.room xs) in
     omega (arith, d, length-append l.entries (take l.room xs))
 
-pub read_from : {l m : Log Entry} {f g : Log Fault} {all : List Event} {number k : ℕ} (a : Answer) → Done l m f g all number k → a.number ≡ number → a.delivered ≡ length m.entries - length l.entries → a.found ≡ counted k → Read l m f g all a
-read_from {l} {m} {f} {g} {all} {number} {k} a D en ed ef = record {
+pub read_from : {l m : Log Entry} {f g : Log Fault} {all : List Event} {number k found : ℕ} (e : Ending) → Done l m f g all number k → ending_number e ≡ number → found ≡ counted k → Read l m f g all e found
+read_from e D en ef = record {
   sink = D.sink;
   list = D.faults;
   number = en ∙ D.answers;
-  sent = ed ∙ sent_is l m (records all) D.sink;
-  found = ef ∙ ap counted D.seen;
+  all = ef ∙ ap counted D.seen;
 }
 
-pub turn_ended : {l m : Log Entry} {f g : Log Fault} {all : List Event} {found : ℕ} (a : Answer) → Turning l m f g all [] found → a.number ≡ 0 → a.delivered ≡ length m.entries - length l.entries → a.found ≡ found → Read l m f g all a
-turn_ended a T en ed ef = read_from a (ended T.going) en ed (ef ∙ T.is)
+pub turn_ended : {l m : Log Entry} {f g : Log Fault} {all : List Event} {found : ℕ} (e : Ending) → Turning l m f g all [] found → ending_number e ≡ 0 → Read l m f g all e found
+turn_ended e T en = read_from e (ended T.going) en T.is
 
 -- the end of a text
 pub to_come_end : (S : Setting) (e : ℕ) (σ : Stage) → to_come S e σ [] ≡ closing σ e ++ []

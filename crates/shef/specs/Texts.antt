@@ -5,7 +5,7 @@ use Rattle.reader.specs.Lines.{Piece, lines}
 use Rattle.reader.specs.declared.kind.LineKind.{LineKind}
 use Rattle.reader.specs.declared.kind.LineKind.TheVariants.{Opening, Continuation, End, Dotted, Other}
 use Rattle.events.specs.Events.{Event}
-use Rattle.messages.specs.Models.{Setting}
+use Rattle.daylight.specs.Settings.{Setting}
 use Rattle.stages.specs.Stages.{Stage, outside, next, came, within}
 
 abbrev pub is_opening : LineKind → Bool

@@ -1,10 +1,10 @@
 // Decoding a text into a sink.
-ghost use Rattle.std.specs.Prelude.{◌≡◌, ◌+◌, length};
+ghost use Rattle.std.specs.Prelude.{◌≡◌, ◌+◌, ◌^◌, ◌<◌, length};
 ghost use Rattle.events.specs.Events.{met, records};
 ghost use Rattle.events.specs.Room.{refusals};
-ghost use Rattle.messages.specs.Models.{setting};
+ghost use Rattle.daylight.specs.Settings.{setting, told};
 ghost use Rattle.reader.specs.Lines.{line_piece};
-ghost use Rattle.shef.specs.Decodes.{answer_of, counted, decoded, delivered as delivered_of, ends_here};
+ghost use Rattle.shef.specs.Decodes.{answer_of, counted, decoded, delivered as delivered_of, ending_number, ends_here};
 ghost use Rattle.stages.specs.Machines.{stage_of};
 ghost use Rattle.shef.specs.Answers.{Read};
 ghost use Rattle.stages.specs.Stages.{closing};
@@ -14,16 +14,41 @@ ghost use Rattle.sink.specs.Tables.{Grown};
 
 use calendar::date::Date;
 use daylight::rule::Rule;
+use daylight::setting::Setting;
 use reader::{Line, LineKind, Lines, kind_of};
 use refusals::{Fault, Refusal};
 use sink::Sink;
 use slots::list::Slots;
 use stages::Machine;
 
-// What a decode answers: 0, 1 or 14, the records delivered and the faults found.
+// How a decode ended.
+#[derive(Clone, Copy, PartialEq, Eq)]
+pub enum Ending {
+    // The text was read to its end.
+    Whole,
+    // The current date is no day of 1900 to 2099, and nothing was read.
+    NoDay,
+    // A record found no room, and nothing behind it was read.
+    NoRoom,
+}
+
+impl Ending {
+    // The number by which users know it.
+    pub fn number(self) -> u8
+        ensures { result ≡ ending_number self }
+    {
+        match self {
+            Ending::Whole => 0,
+            Ending::NoDay => 1,
+            Ending::NoRoom => 14,
+        }
+    }
+}
+
+// What a decode answers: how it ended, the records delivered and the faults found.
 #[derive(Clone, Copy)]
 pub struct Answer {
-    pub number: u8,
+    pub ending: Ending,
     pub delivered: usize,
     pub found: u64,
 }
@@ -31,49 +56,52 @@ pub struct Answer {
 fn is_opening(kind: LineKind) -> bool
     ensures { result ≡ is_opening kind }
 {
-    match kind {
-        LineKind::Opening(_, _) => true,
-        LineKind::Continuation(_, _) | LineKind::End | LineKind::Dotted | LineKind::Other => false,
-    }
+    matches!(kind, LineKind::Opening(_, _))
 }
 
-// Puts a fault into the list, where it has room, and counts it.
-fn report(faults: &mut Slots<'_, Fault>, fault: Fault, found: u64) -> u64
-    ensures list { of_slots faults.new ≡ put (of_slots faults.old) fault }
-    ensures frame { Grown faults.old faults.new }
-    ensures count { result ≡ counted (found + 1) }
-{
-    let _ = faults.push(fault);
-    found.saturating_add(1)
-}
-
-// A table that is still open is refused at a place.
-fn close_at(machine: &Machine<'_>, place: usize, faults: &mut Slots<'_, Fault>, found: u64) -> u64
-    ensures list { of_slots faults.new ≡ put_all (of_slots faults.old) (refusals (closing (stage_of machine.now) place)) }
-    ensures frame { Grown faults.old faults.new }
-    ensures count { result ≡ counted (found + length (refusals (closing (stage_of machine.now) place))) }
-{
-    match machine.close(place) {
-        Some(fault) => report(faults, fault, found),
-        None => found,
-    }
-}
-
-// An opening ends a table that is still open.
-fn close_before(
-    machine: &Machine<'_>,
-    line: Line<'_>,
-    faults: &mut Slots<'_, Fault>,
+// What is refused: the caller's list, and how many refusals there were, listed or not. That a u64 is below 2^64 is known of a
+// parameter, and of a field only where its type says so.
+#[derive(Drop)]
+struct Refused<'l, 'a> {
+    list: &'l mut Slots<'a, Fault>,
     found: u64,
-) -> u64
-    ensures list { of_slots faults.new ≡ put_all (of_slots faults.old) (refusals (ends_here (stage_of machine.now) (line_piece line.entry))) }
-    ensures frame { Grown faults.old faults.new }
-    ensures count { result ≡ counted (found + length (refusals (ends_here (stage_of machine.now) (line_piece line.entry)))) }
-{
-    if is_opening(kind_of(line.part)) {
-        close_at(machine, line.place, faults, found)
-    } else {
-        found
+    ghost fits: { found < 2 ^ 64 },
+}
+
+impl<'l, 'a> Refused<'l, 'a> {
+    // Puts a fault into the list, where it has room, and counts it.
+    fn report(&mut self, fault: Fault)
+        ensures list { of_slots self.new.list.now ≡ put (of_slots self.old.list.now) fault }
+        ensures frame { Grown self.old.list.now self.new.list.now }
+        ensures count { self.new.found ≡ counted (self.old.found + 1) }
+        ensures lent { self.new.list.ghost_name ≡ self.old.list.ghost_name }
+    {
+        let _ = self.list.push(fault);
+        self.found = self.found.saturating_add(1);
+    }
+
+    // A table that is still open is refused at a place.
+    fn close_at(&mut self, machine: &Machine<'_>, place: usize)
+        ensures list { of_slots self.new.list.now ≡ put_all (of_slots self.old.list.now) (refusals (closing (stage_of machine.now) place)) }
+        ensures frame { Grown self.old.list.now self.new.list.now }
+        ensures count { self.new.found ≡ counted (self.old.found + length (refusals (closing (stage_of machine.now) place))) }
+        ensures lent { self.new.list.ghost_name ≡ self.old.list.ghost_name }
+    {
+        if let Some(fault) = machine.close(place) {
+            self.report(fault);
+        }
+    }
+
+    // An opening ends a table that is still open.
+    fn close_before(&mut self, machine: &Machine<'_>, line: Line<'_>)
+        ensures list { of_slots self.new.list.now ≡ put_all (of_slots self.old.list.now) (refusals (ends_here (stage_of machine.now) (line_piece line.entry))) }
+        ensures frame { Grown self.old.list.now self.new.list.now }
+        ensures count { self.new.found ≡ counted (self.old.found + length (refusals (ends_here (stage_of machine.now) (line_piece line.entry)))) }
+        ensures lent { self.new.list.ghost_name ≡ self.old.list.ghost_name }
+    {
+        if is_opening(kind_of(line.part)) {
+            self.close_at(machine, line.place);
+        }
     }
 }
 
@@ -88,62 +116,74 @@ pub fn decode<S: Sink, R: Rule>(
 ) -> Answer
     ensures sink { S.Sink.holds sink.new ≡ put_all (S.Sink.holds sink.old) (records (decoded (setting today (R.Rule.daylight rule.now)) text.now)) }
     ensures list { of_slots faults.new ≡ put_all (of_slots faults.old) (met (S.Sink.holds sink.old).room (decoded (setting today (R.Rule.daylight rule.now)) text.now)) }
-    ensures number { result.number ≡ answer_of (setting today (R.Rule.daylight rule.now)) (S.Sink.holds sink.old).room text.now }
+    ensures number { ending_number result.ending ≡ answer_of (setting today (R.Rule.daylight rule.now)) (S.Sink.holds sink.old).room text.now }
     ensures delivered { result.delivered ≡ delivered_of (S.Sink.holds sink.old).room (decoded (setting today (R.Rule.daylight rule.now)) text.now) }
     ensures found { result.found ≡ counted (length (met (S.Sink.holds sink.old).room (decoded (setting today (R.Rule.daylight rule.now)) text.now))) }
     ensures frame { (S.Sink.frame sink.old sink.new) × (Grown faults.old faults.new) }
 {
-    if !today.is_message_day() {
-        let refused = Fault {
-            refusal: Refusal::CurrentDate,
-            place: 0,
-        };
-        return Answer {
-            number: 1,
-            delivered: 0,
-            found: report(faults, refused, 0),
-        };
+    let setting = Setting { today, rule };
+    let held = sink.count();
+    let mut refused = Refused {
+        list: faults,
+        found: 0,
+    };
+    let ending = read_dated(text, &setting, sink, &mut refused);
+    let delivered = sink.count().saturating_sub(held);
+    Answer {
+        ending,
+        delivered,
+        found: refused.found,
     }
-    read_text(text, today, rule, sink, faults)
+}
+
+// A current date that is no day of 1900 to 2099 is refused, and nothing is read.
+fn read_dated<S: Sink, R: Rule>(
+    text: &[u8],
+    setting: &Setting<'_, R>,
+    sink: &mut S,
+    refused: &mut Refused<'_, '_>,
+) -> Ending
+    requires { refused.old.found ≡ 0 }
+    ensures sink { S.Sink.holds sink.new ≡ put_all (S.Sink.holds sink.old) (records (decoded (told R.daylight setting.now) text.now)) }
+    ensures list { of_slots refused.new.list.now ≡ put_all (of_slots refused.old.list.now) (met (S.Sink.holds sink.old).room (decoded (told R.daylight setting.now) text.now)) }
+    ensures number { ending_number result ≡ answer_of (told R.daylight setting.now) (S.Sink.holds sink.old).room text.now }
+    ensures found { refused.new.found ≡ counted (length (met (S.Sink.holds sink.old).room (decoded (told R.daylight setting.now) text.now))) }
+    ensures frame { (S.Sink.frame sink.old sink.new) × (Grown refused.old.list.now refused.new.list.now) }
+    ensures lent { refused.new.list.ghost_name ≡ refused.old.list.ghost_name }
+{
+    if !setting.today.is_message_day() {
+        refused.report(Refusal::CurrentDate.at(0));
+        return Ending::NoDay;
+    }
+    read_text(text, setting, sink, refused)
 }
 
 fn read_text<S: Sink, R: Rule>(
     text: &[u8],
-    today: Date,
-    rule: &R,
+    setting: &Setting<'_, R>,
     sink: &mut S,
-    faults: &mut Slots<'_, Fault>,
-) -> Answer
-    ensures done { Read (S.Sink.holds sink.old) (S.Sink.holds sink.new) (of_slots faults.old) (of_slots faults.new) (events (setting today (R.Rule.daylight rule.now)) text.now) result }
-    ensures frame { (S.Sink.frame sink.old sink.new) × (Grown faults.old faults.new) }
+    refused: &mut Refused<'_, '_>,
+) -> Ending
+    requires { refused.old.found ≡ 0 }
+    ensures done { Read (S.Sink.holds sink.old) (S.Sink.holds sink.new) (of_slots refused.old.list.now) (of_slots refused.new.list.now) (events (told R.daylight setting.now) text.now) result refused.new.found }
+    ensures frame { (S.Sink.frame sink.old sink.new) × (Grown refused.old.list.now refused.new.list.now) }
+    ensures lent { refused.new.list.ghost_name ≡ refused.old.list.ghost_name }
 {
-    let held = sink.count();
-    let mut found: u64 = 0;
     let mut machine = Machine::new(text);
     let mut lines = Lines::new(text);
     while let Some(line) = lines.next_line() {
-        found = close_before(&machine, line, faults, found);
-        match machine.take_line(line, lines, today, rule, sink) {
+        refused.close_before(&machine, line);
+        match machine.take_line(line, lines, setting, sink) {
             Ok(()) => {}
             Err(fault) => {
-                found = report(faults, fault, found);
+                refused.report(fault);
                 if let Refusal::NoRoom = fault.refusal {
-                    let delivered = sink.count().saturating_sub(held);
-                    return Answer {
-                        number: 14,
-                        delivered,
-                        found,
-                    };
+                    return Ending::NoRoom;
                 }
                 machine.skip();
             }
         }
     }
-    found = close_at(&machine, text.len(), faults, found);
-    let delivered = sink.count().saturating_sub(held);
-    Answer {
-        number: 0,
-        delivered,
-        found,
-    }
+    refused.close_at(&machine, text.len());
+    Ending::Whole
 }

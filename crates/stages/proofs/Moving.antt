@@ -10,7 +10,10 @@ use Rattle.items.specs.Items.{message_items, body_items, is_blank}
 use Rattle.merging.specs.Merging.{Sided, filled, from_header}
 use Rattle.reader.specs.Kinds.{readable}
 use Rattle.reader.specs.Lines.{Piece}
+use denote.Enum.Bare.{sameb}
+use Rattle.reader.specs.contracts.kind.Form.{the_type}
 use Rattle.reader.specs.declared.kind.Form.{Form}
+use Rattle.reader.specs.declared.kind.Form.TheVariants.{A, B, E}
 use Rattle.record.specs.Entries.{Entry}
 use Rattle.record.specs.Stations.{station_of}
 use Rattle.refusals.specs.declared.Fault.{Fault}
@@ -26,8 +29,10 @@ use Rattle.reader.specs.declared.kind.LineKind.{LineKind}
 use Rattle.reader.specs.declared.kind.LineKind.TheVariants.{Opening, Continuation, End, Dotted, Other}
 use Rattle.stages.specs.Told.{told}
 use Rattle.events.proofs.Passes.{nothing, same, pulled, pulled_stopped, renamed, renamed_stopped}
-use Rattle.messages.specs.Models.{Setting, Common, Reached, fresh}
-use Rattle.logging.specs.Follow.{follow, own_items}
+use Rattle.daylight.specs.Settings.{Setting}
+use Rattle.messages.specs.Models.{Common, Reached, fresh}
+use Rattle.logging.specs.Follow.{follow}
+use Rattle.logging.specs.Own.{own_items}
 use Rattle.openings.proofs.Saying.{Says}
 use Rattle.openings.specs.Openings.{Opened, field, opened}
 use Rattle.stages.specs.Stages.{Stage, body, header, Moved, onto, reads, refuses, came, opens_to, begins, continues_as, continues, of_station, line_of, body_line, same_form, same_bool, follows, in_body, by_kind, in_stage, outside}
@@ -174,6 +179,18 @@ word_not_blank f (Some x) bs e s = ⊎_elim (λ t. let z = e ∙ cond-true (is_b
 pub no_word_blank : {X : Type 0} (f : X → ℕ × (List ℕ × List ℕ)) (o : Option X) (bs : List ℕ) → option_map f o ≡ first_word bs → is_some o ≡ false → is_blank bs ≡ true
 no_word_blank f (Some x) bs e s = absurd (true≢false s)
 no_word_blank f None bs e s = ⊎_elim (λ b. b) (λ t. let z = e ∙ cond-false (is_blank bs) _ _ t in let y : ◌≡◌ {A = ℕ} 0 1 = cc in absurd (omega arith)) (cases_Bool (is_blank bs))
+
+-- forms are compared case by case
+pub forms_alike : (a b : Form) → sameb the_type a b ≡ same_form a b
+forms_alike A A = refl
+forms_alike A B = refl
+forms_alike A E = refl
+forms_alike B A = refl
+forms_alike B B = refl
+forms_alike B E = refl
+forms_alike E A = refl
+forms_alike E B = refl
+forms_alike E E = refl
 
 -- the letters and the number of a continuation
 pub and_no : (a b : Bool) → (a && (b && false)) ≡ false

@@ -16,8 +16,10 @@ use Rattle.refusals.specs.declared.MessageRefusal.TheVariants as why
 use Rattle.refusals.specs.declared.Refusal.TheVariants.{Message}
 use Rattle.terms.specs.Standing.{Standing}
 use Rattle.events.specs.Events.{Event, fault, refused}
-use Rattle.messages.specs.Models.{Setting, Common, Reached, fresh}
-use Rattle.logging.specs.Follow.{follow, own_items}
+use Rattle.daylight.specs.Settings.{Setting}
+use Rattle.messages.specs.Models.{Common, Reached, fresh}
+use Rattle.logging.specs.Follow.{follow}
+use Rattle.logging.specs.Own.{own_items}
 use Rattle.openings.specs.Openings.{Opened, field, opened}
 
 pub data Stage : Type 0 where

@@ -1,21 +1,23 @@
 // What each kind of line does in each stage.
 ghost use Rattle.std.specs.Prelude.{◌≡◌, ◌+◌, ◌^◌, ◌<◌, true, false, List, [], ◌∷◌, length, drop, IfErr, MatchOption, OnOk};
 ghost use Rattle.events.specs.Passing.{Comes};
-ghost use Rattle.messages.specs.Models.{setting, common, reached};
+ghost use Rattle.daylight.specs.Settings.{told};
+ghost use Rattle.messages.specs.Models.{common, reached};
 ghost use Rattle.reader.specs.Kinds.{kind_of};
 ghost use Rattle.reader.specs.Lines.{Piece, line_piece, lines as lines_of, lines_ahead};
 ghost use Rattle.refusals.specs.declared.Refusal.TheVariants.{Message as MessageRefused};
 ghost use Rattle.stages.specs.Machines.{header_of, stage_of, Tied};
 ghost use Rattle.stages.specs.Stages.{begins, behind as leaves, body_line, by_kind, came, closing, continues, continues_as, in_body, in_header, is_table, next, onto, outside, pass_over, refuses, same_form, skipping};
-ghost use Rattle.stages.specs.Told.{closed, told};
+ghost use Rattle.stages.specs.Told.{closed, told as told_of};
 ghost use Rattle.refusals.specs.declared.MessageRefusal.TheVariants as why;
 ghost use Rattle.terms.specs.Standing.{standing};
 
 use crate::stage::{Machine, Open, Stage};
-use calendar::date::Date;
 use daylight::rule::Rule;
+use daylight::setting::Setting;
 use items::{Items, next_word};
-use logging::{read_items, read_line};
+use logging::parts::OwnParts;
+use logging::read_parts;
 use merging::{Header, Merged, continued_items};
 use messages::message::{Message, Progress};
 use openings::{body_station, read_opening};
@@ -23,18 +25,9 @@ use reader::{Form, Line, LineKind, Lines, continuation_of, is_readable, kind_of}
 use refusals::{Fault, MessageRefusal};
 use sink::Sink;
 
-fn is_same(a: Form, b: Form) -> bool
-    ensures { result ≡ same_form a b }
-{
-    match (a, b) {
-        (Form::A, Form::A) | (Form::B, Form::B) | (Form::E, Form::E) => true,
-        _ => false,
-    }
-}
-
 // Outside messages only a continuation is refused.
 fn pass_over(line: Line<'_>, kind: LineKind) -> Result<(), Fault>
-    ensures moved { told outside result ≡ pass_over (line_piece line.entry) kind }
+    ensures moved { told_of outside result ≡ pass_over (line_piece line.entry) kind }
     ensures says { IfErr result (λ f. f.refusal ≡ MessageRefused why.Continuation) }
 {
     match kind {
@@ -47,10 +40,7 @@ impl Open {
     fn is_table(&self) -> bool
         ensures { result ≡ is_table self.now.message.form }
     {
-        match self.message.form {
-            Form::B => true,
-            Form::A | Form::E => false,
-        }
+        self.message.form == Form::B
     }
 
     // The number of a line that continues the message: its letters are the same, and its number is the next.
@@ -58,7 +48,7 @@ impl Open {
         ensures { MatchOption result (continues_as (common self.now.message) self.now.number form revised line.now ≡ false) (λ n. (continues_as (common self.now.message) self.now.number form revised line.now ≡ true) × (n ≡ self.now.number + 1)) }
     {
         let here = continuation_of(line)?;
-        if is_same(self.message.form, form)
+        if self.message.form == form
             && self.message.revised == revised
             && here.number > 0
             && here.number - 1 == self.number
@@ -82,34 +72,35 @@ impl<'a> Machine<'a> {
         }
     }
 
-    // An opening begins a message, whatever stood before it.
+    // An opening begins a message, whatever stood before it. Here and below the setting is read and the sink written, so they are two.
     fn open<S: Sink, R: Rule>(
         &mut self,
         line: Line<'a>,
         behind: Lines<'a>,
         form: Form,
         revised: bool,
-        today: Date,
-        rule: &R,
+        setting: &Setting<'_, R>,
         sink: &mut S,
     ) -> Result<(), Fault>
-        requires { line.place + length line.part.now < 2 ^ 64 }
-        ensures cases { Comes result (S.Sink.holds sink.old) (S.Sink.holds sink.new) (came (setting today (R.Rule.daylight rule.now)) (begins (setting today (R.Rule.daylight rule.now)) form revised (line_piece line.entry))) (λ _ k. k (stage_of self.new)) }
+        ensures cases { Comes result (S.Sink.holds sink.old) (S.Sink.holds sink.new) (came (told R.daylight setting.now) (begins (told R.daylight setting.now) form revised (line_piece line.entry))) (λ _ k. k (stage_of self.new)) }
         ensures tied { OnOk result (Tied self.new (lines_ahead behind.entry)) }
         ensures frame { S.Sink.frame sink.old sink.new }
     {
         if !is_readable(line.part) {
             return Err(MessageRefusal::Unreadable.at(line.place));
         }
-        let opening = read_opening(line, form, revised, today)?;
+        let opening = read_opening(line, form, revised, setting.today)?;
         let (_, rest) = line.part.split_at(opening.start);
         let items = Items::of_line(rest, line.place + opening.start);
-        let progress = read_items(
+        let own = OwnParts {
+            form: opening.message.form,
+            items,
+        };
+        let progress = read_parts(
             &opening.message,
             Progress::new(opening.terms),
-            items,
-            today,
-            rule,
+            own,
+            setting,
             sink,
         )?;
         self.stage = Stage::Header(Open {
@@ -129,12 +120,10 @@ impl<'a> Machine<'a> {
         line: Line<'a>,
         form: Form,
         revised: bool,
-        today: Date,
-        rule: &R,
+        setting: &Setting<'_, R>,
         sink: &mut S,
     ) -> Result<(), Fault>
-        requires { line.place + length line.part.now < 2 ^ 64 }
-        ensures cases { (rest : List Piece) → drop held.number (lines_ahead self.old.lines) ≡ (line_piece line.entry) ∷ rest → Comes result (S.Sink.holds sink.old) (S.Sink.holds sink.new) (came (setting today (R.Rule.daylight rule.now)) (continues (common held.message) (standing held.terms) (reached held.progress) held.number (header_of self.old held.number) form revised (line_piece line.entry))) (λ _ k. k (stage_of self.new)) }
+        ensures cases { (rest : List Piece) → drop held.number (lines_ahead self.old.lines) ≡ (line_piece line.entry) ∷ rest → Comes result (S.Sink.holds sink.old) (S.Sink.holds sink.new) (came (told R.daylight setting.now) (continues (common held.message) (standing held.terms) (reached held.progress) held.number (header_of self.old held.number) form revised (line_piece line.entry))) (λ _ k. k (stage_of self.new)) }
         ensures tied { (rest : List Piece) → drop held.number (lines_ahead self.old.lines) ≡ (line_piece line.entry) ∷ rest → OnOk result (Tied self.new rest) }
         ensures frame { S.Sink.frame sink.old sink.new }
     {
@@ -144,8 +133,11 @@ impl<'a> Machine<'a> {
         let Some(number) = held.next_number(form, revised, line.part) else {
             return Err(MessageRefusal::Continuation.at(line.place));
         };
-        let items = continued_items(line);
-        let progress = read_items(&held.message, held.progress, items, today, rule, sink)?;
+        let own = OwnParts {
+            form: held.message.form,
+            items: continued_items(line),
+        };
+        let progress = read_parts(&held.message, held.progress, own, setting, sink)?;
         self.stage = Stage::Header(Open {
             progress,
             number,
@@ -159,19 +151,17 @@ impl<'a> Machine<'a> {
         &mut self,
         held: Open,
         line: Line<'a>,
-        today: Date,
-        rule: &R,
+        setting: &Setting<'_, R>,
         sink: &mut S,
     ) -> Result<(), Fault>
-        requires { line.place + length line.part.now < 2 ^ 64 }
-        ensures cases { Comes result (S.Sink.holds sink.old) (S.Sink.holds sink.new) (came (setting today (R.Rule.daylight rule.now)) (body_line (common held.message) (standing held.terms) (header_of self.old held.number) (line_piece line.entry))) (λ _ k. k (stage_of self.new)) }
+        ensures cases { Comes result (S.Sink.holds sink.old) (S.Sink.holds sink.new) (came (told R.daylight setting.now) (body_line (common held.message) (standing held.terms) (header_of self.old held.number) (line_piece line.entry))) (λ _ k. k (stage_of self.new)) }
         ensures tied { OnOk result ((rest : List Piece) → Tied self.new rest) }
         ensures frame { S.Sink.frame sink.old sink.new }
     {
         if !is_readable(line.part) {
             return Err(MessageRefusal::Unreadable.at(line.place));
         }
-        if !next_word(line.part).is_some() {
+        if next_word(line.part).is_none() {
             self.stage = Stage::Body(held);
             return Ok(());
         }
@@ -185,41 +175,9 @@ impl<'a> Machine<'a> {
             ..held.message
         };
         let parts = Merged::new(header, own);
-        read_line(
-            &message,
-            Progress::new(held.terms),
-            parts,
-            today,
-            rule,
-            sink,
-        )?;
+        read_parts(&message, Progress::new(held.terms), parts, setting, sink)?;
         self.stage = Stage::Body(held);
         Ok(())
-    }
-
-    // What a line does, by the stage and the kind of line.
-    fn step<S: Sink, R: Rule>(
-        &mut self,
-        line: Line<'a>,
-        behind: Lines<'a>,
-        today: Date,
-        rule: &R,
-        sink: &mut S,
-    ) -> Result<(), Fault>
-        requires { line.place + length line.part.now < 2 ^ 64 }
-        ensures cases { Tied self.old ((line_piece line.entry) ∷ lines_ahead behind.entry) → Comes result (S.Sink.holds sink.old) (S.Sink.holds sink.new) (came (setting today (R.Rule.daylight rule.now)) (next (setting today (R.Rule.daylight rule.now)) (stage_of self.old) (line_piece line.entry))) (λ _ k. k (stage_of self.new)) }
-        ensures tied { Tied self.old ((line_piece line.entry) ∷ lines_ahead behind.entry) → OnOk result (Tied self.new (lines_ahead behind.entry)) }
-        ensures frame { S.Sink.frame sink.old sink.new }
-    {
-        match (self.stage, kind_of(line.part)) {
-            (_, LineKind::Opening(form, revised)) => {
-                self.open(line, behind, form, revised, today, rule, sink)
-            }
-            (Stage::Skipping, _) => Ok(()),
-            (Stage::Outside, kind) => pass_over(line, kind),
-            (Stage::Header(held), kind) => self.read_header(held, line, kind, today, rule, sink),
-            (Stage::Body(held), kind) => self.read_table(held, line, kind, today, rule, sink),
-        }
     }
 
     // In a header a continuation goes on, and any other line leaves it.
@@ -228,20 +186,18 @@ impl<'a> Machine<'a> {
         held: Open,
         line: Line<'a>,
         kind: LineKind,
-        today: Date,
-        rule: &R,
+        setting: &Setting<'_, R>,
         sink: &mut S,
     ) -> Result<(), Fault>
-        requires { line.place + length line.part.now < 2 ^ 64 }
-        ensures cases { (rest : List Piece) → drop held.number (lines_ahead self.old.lines) ≡ (line_piece line.entry) ∷ rest → Comes result (S.Sink.holds sink.old) (S.Sink.holds sink.new) (came (setting today (R.Rule.daylight rule.now)) (in_header (common held.message) (standing held.terms) (reached held.progress) held.number (header_of self.old held.number) (line_piece line.entry) kind)) (λ _ k. k (stage_of self.new)) }
+        ensures cases { (rest : List Piece) → drop held.number (lines_ahead self.old.lines) ≡ (line_piece line.entry) ∷ rest → Comes result (S.Sink.holds sink.old) (S.Sink.holds sink.new) (came (told R.daylight setting.now) (in_header (common held.message) (standing held.terms) (reached held.progress) held.number (header_of self.old held.number) (line_piece line.entry) kind)) (λ _ k. k (stage_of self.new)) }
         ensures tied { (rest : List Piece) → drop held.number (lines_ahead self.old.lines) ≡ (line_piece line.entry) ∷ rest → OnOk result (Tied self.new rest) }
         ensures frame { S.Sink.frame sink.old sink.new }
     {
         match kind {
             LineKind::Continuation(form, revised) => self.carry_on(
-                held, line, form, revised, today, rule, sink,
+                held, line, form, revised, setting, sink,
             ),
-            _ => self.leave_header(held, line, kind, today, rule, sink),
+            _ => self.leave_header(held, line, kind, setting, sink),
         }
     }
 
@@ -251,17 +207,15 @@ impl<'a> Machine<'a> {
         held: Open,
         line: Line<'a>,
         kind: LineKind,
-        today: Date,
-        rule: &R,
+        setting: &Setting<'_, R>,
         sink: &mut S,
     ) -> Result<(), Fault>
-        requires { line.place + length line.part.now < 2 ^ 64 }
-        ensures cases { Comes result (S.Sink.holds sink.old) (S.Sink.holds sink.new) (came (setting today (R.Rule.daylight rule.now)) (leaves (common held.message) (standing held.terms) (header_of self.old held.number) (line_piece line.entry) kind)) (λ _ k. k (stage_of self.new)) }
+        ensures cases { Comes result (S.Sink.holds sink.old) (S.Sink.holds sink.new) (came (told R.daylight setting.now) (leaves (common held.message) (standing held.terms) (header_of self.old held.number) (line_piece line.entry) kind)) (λ _ k. k (stage_of self.new)) }
         ensures tied { OnOk result ((rest : List Piece) → Tied self.new rest) }
         ensures frame { S.Sink.frame sink.old sink.new }
     {
         if held.is_table() {
-            return self.read_table(held, line, kind, today, rule, sink);
+            return self.read_table(held, line, kind, setting, sink);
         }
         self.stage = Stage::Outside;
         Ok(())
@@ -273,17 +227,15 @@ impl<'a> Machine<'a> {
         held: Open,
         line: Line<'a>,
         kind: LineKind,
-        today: Date,
-        rule: &R,
+        setting: &Setting<'_, R>,
         sink: &mut S,
     ) -> Result<(), Fault>
-        requires { line.place + length line.part.now < 2 ^ 64 }
-        ensures cases { Comes result (S.Sink.holds sink.old) (S.Sink.holds sink.new) (came (setting today (R.Rule.daylight rule.now)) (in_body (common held.message) (standing held.terms) (header_of self.old held.number) (line_piece line.entry) kind)) (λ _ k. k (stage_of self.new)) }
+        ensures cases { Comes result (S.Sink.holds sink.old) (S.Sink.holds sink.new) (came (told R.daylight setting.now) (in_body (common held.message) (standing held.terms) (header_of self.old held.number) (line_piece line.entry) kind)) (λ _ k. k (stage_of self.new)) }
         ensures tied { OnOk result ((rest : List Piece) → Tied self.new rest) }
         ensures frame { S.Sink.frame sink.old sink.new }
     {
         match kind {
-            LineKind::Other => self.read_body(held, line, today, rule, sink),
+            LineKind::Other => self.read_body(held, line, setting, sink),
             LineKind::End => {
                 self.stage = Stage::Outside;
                 Ok(())
@@ -292,23 +244,29 @@ impl<'a> Machine<'a> {
         }
     }
 
-    // Reads a line; `behind` are the lines that follow it. One that would end beyond the last place of a text is refused.
+    // What a line does, by the stage and the kind of line; `behind` are the lines that follow it.
     pub fn take_line<S: Sink, R: Rule>(
         &mut self,
         line: Line<'a>,
         behind: Lines<'a>,
-        today: Date,
-        rule: &R,
+        setting: &Setting<'_, R>,
         sink: &mut S,
     ) -> Result<(), Fault>
-        ensures cases { line.entry.place + length line.entry.part.now < 2 ^ 64 → Tied self.old ((line_piece line.entry) ∷ lines_ahead behind.entry) → Comes result (S.Sink.holds sink.old) (S.Sink.holds sink.new) (came (setting today (R.Rule.daylight rule.now)) (next (setting today (R.Rule.daylight rule.now)) (stage_of self.old) (line_piece line.entry))) (λ _ k. k (stage_of self.new)) }
+        ensures cases { Tied self.old ((line_piece line.entry) ∷ lines_ahead behind.entry) → Comes result (S.Sink.holds sink.old) (S.Sink.holds sink.new) (came (told R.daylight setting.now) (next (told R.daylight setting.now) (stage_of self.old) (line_piece line.entry))) (λ _ k. k (stage_of self.new)) }
         ensures tied { Tied self.old ((line_piece line.entry) ∷ lines_ahead behind.entry) → OnOk result (Tied self.new (lines_ahead behind.entry)) }
         ensures frame { S.Sink.frame sink.old sink.new }
     {
-        if line.part.len() > usize::MAX - line.place {
-            return Err(MessageRefusal::Unreadable.at(line.place));
+        // The arms hand the kind on: no proof is made of a second arm that reads what a stage holds, once one has read what the kind
+        // holds.
+        match (self.stage, kind_of(line.part)) {
+            (_, LineKind::Opening(form, revised)) => {
+                self.open(line, behind, form, revised, setting, sink)
+            }
+            (Stage::Skipping, _) => Ok(()),
+            (Stage::Outside, kind) => pass_over(line, kind),
+            (Stage::Header(held), kind) => self.read_header(held, line, kind, setting, sink),
+            (Stage::Body(held), kind) => self.read_table(held, line, kind, setting, sink),
         }
-        self.step(line, behind, today, rule, sink)
     }
 
     // Of a message that was refused nothing more is read.
@@ -328,10 +286,6 @@ impl<'a> Machine<'a> {
             Stage::Header(held) => held.is_table(),
             Stage::Body(_) => true,
         };
-        if is_open {
-            Some(MessageRefusal::Unfinished.at(place))
-        } else {
-            None
-        }
+        is_open.then(|| MessageRefusal::Unfinished.at(place))
     }
 }

@@ -22,7 +22,8 @@ pub(crate) enum Stage {
 }
 
 // The reader's state: its stage, and where the header of the message is read again for each body line: the items of the opening line,
-// and the lines behind it.
+// and the lines behind it. These two stand beside the stage and not in `Open`: they stay as they are through a message, while that is
+// written anew with each line.
 #[derive(Clone, Copy)]
 pub struct Machine<'a> {
     pub(crate) stage: Stage,

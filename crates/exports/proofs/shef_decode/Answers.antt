@@ -19,7 +19,7 @@ returns c =
     record {
       lines = lines-written s t rs n _ new.empty end.sink end.delivered (search rules) _ new.room;
       behind = rest_kept s t rs n _ new.empty end.sink end.delivered (search rules) _ new.kept end.frame.0;
-      number = end.number ∙ ap (λ m. answer_of S m text) new.room;
+      number = c.number.ensures ∙ end.number ∙ ap (λ m. answer_of S m text) new.room;
       delivered = end.delivered ∙ ap (λ m. delivered m (decoded S text)) new.room;
       found = end.found ∙ ap (λ m. counted (length (met m (decoded S text)))) new.room;
     }

@@ -1,83 +1,78 @@
-use Rattle.std.proofs.Common.{List, length, sym, refl, ap, ◌∙◌, subst, arith}
-use Rattle.messages.specs.Models.{setting}
+use Rattle.std.proofs.Common.{List, length, sym, refl, ap, ◌∙◌, subst}
+use Rattle.daylight.specs.Settings.{told}
 use Rattle.reader.specs.Lines.{Piece, line_piece, lines_ahead, lines}
 use Rattle.sink.specs.Tables.{grown_ties}
 use Rattle.stages.specs.Machines.{stage_of, Tied}
 use Rattle.stages.specs.Stages.{next, came, closing}
 use Rattle.shef.specs.Texts.{to_come, stretches, cut}
 use Rattle.shef.specs.Decodes.{ends_here}
+use Rattle.shef.specs.declared.decode.Ending.TheVariants.{Whole, NoRoom}
 use Rattle.shef.proofs.Whole.{behind_line, to_come-line, to_come_skipping, to_come_end, records_here, records_end, turn_begun, turn_renamed, turn_refused, turn_passed, turn_stopped, turn_full, turn_ended, read_from}
 use Rattle.shef.proofs.decode.read_text.Goals as goal
 
-pub loop-line-init : goal.loop-line-init
-loop-line-init g c =
-    let S = setting c.args.today (g.R.Rule.daylight c.args.rule.now) in
-    let e = length c.args.text.now in (
-      turn_renamed turn_begun (ap (λ σ. to_come S e σ (lines c.args.text.now)) (sym c.new-machine.ensures.stage) ∙ ap (to_come S e (stage_of c.new-machine.result)) (sym c.new-lines.ensures.whole)),
-      c.new-machine.ensures.tied (lines_ahead c.new-lines.result),
-      g.S.Sink.ties.stays _,
-      grown_ties.stays _,
-    )
-
 pub loop-line-preserved-in-Ok : goal.loop-line-preserved-in-Ok
 loop-line-preserved-in-Ok g c =
-    let S = setting c.args.today (g.R.Rule.daylight c.args.rule.now) in
+    let S = told g.R.Rule.daylight c.args.setting.now in
     let e = length c.args.text.now in
     let σ = stage_of c.loop-line.machine in
     let l = line_piece c.in-Some.line in
     let ls = lines_ahead c.next_line.new.self in
     let gave = c.in-Some.ensures.1 in
     let tie = subst (λ (x : List Piece). Tied c.loop-line.machine x) gave.next c.loop-line.invariant.1 in
-    let here = turn_refused (ends_here σ l) (records_here σ l) (turn_renamed c.loop-line.invariant.0 (ap (to_come S e σ) gave.next ∙ to_come-line S e σ l ls)) c.close_before-found.ensures.list c.close_before-found.ensures.count in (
-      turn_passed (came S (next S σ l)) (behind_line S e ls) (stretches S e (cut ls).1) here (c.in-Ok.ensures.cases gave.fits tie),
+    let here = turn_refused (ends_here σ l) (records_here σ l) (turn_renamed c.loop-line.invariant.0 (ap (to_come S e σ) gave.next ∙ to_come-line S e σ l ls)) c.close_before.ensures.list c.close_before.ensures.count in (
+      turn_passed (came S (next S σ l)) (behind_line S e ls) (stretches S e (cut ls).1) here (c.in-Ok.ensures.cases tie),
       c.in-Ok.ensures.tied tie,
       g.S.Sink.ties.goes _ _ _ c.loop-line.invariant.2 c.take_line.ensures.frame,
-      grown_ties.goes _ _ _ c.loop-line.invariant.3 c.close_before-found.ensures.frame,
+      grown_ties.goes _ _ _ c.loop-line.invariant.3 c.close_before.ensures.frame,
+      c.close_before.ensures.lent ∙ c.loop-line.invariant.4,
     )
 
 pub returns-in-NoRoom : goal.returns-in-NoRoom
 returns-in-NoRoom g c =
-    let S = setting c.args.today (g.R.Rule.daylight c.args.rule.now) in
+    let S = told g.R.Rule.daylight c.args.setting.now in
     let e = length c.args.text.now in
     let σ = stage_of c.loop-line.machine in
     let l = line_piece c.in-Some.line in
     let ls = lines_ahead c.next_line.new.self in
     let gave = c.in-Some.ensures.1 in
     let tie = subst (λ (x : List Piece). Tied c.loop-line.machine x) gave.next c.loop-line.invariant.1 in
-    let here = turn_refused (ends_here σ l) (records_here σ l) (turn_renamed c.loop-line.invariant.0 (ap (to_come S e σ) gave.next ∙ to_come-line S e σ l ls)) c.close_before-found.ensures.list c.close_before-found.ensures.count in
-    let full = turn_full (came S (next S σ l)) (behind_line S e ls) (stretches S e (cut ls).1) c.in-Err.fault here (c.in-Err.ensures.cases gave.fits tie) c.in-NoRoom.is c.report-found.ensures.list c.report-found.ensures.count in
+    let here = turn_refused (ends_here σ l) (records_here σ l) (turn_renamed c.loop-line.invariant.0 (ap (to_come S e σ) gave.next ∙ to_come-line S e σ l ls)) c.close_before.ensures.list c.close_before.ensures.count in
+    let full = turn_full (came S (next S σ l)) (behind_line S e ls) (stretches S e (cut ls).1) c.in-Err.fault here (c.in-Err.ensures.cases tie) c.in-NoRoom.is c.report.ensures.list c.report.ensures.count in
     record {
-      done = read_from _ full.1 refl (omega (arith, c.saturating_sub-delivered.ensures, c.count.ensures, c.count-held.ensures)) full.2;
+      done = read_from NoRoom full.1 refl full.2;
       frame = (
         g.S.Sink.ties.goes _ _ _ c.loop-line.invariant.2 c.take_line.ensures.frame,
-        grown_ties.goes _ _ _ (grown_ties.goes _ _ _ c.loop-line.invariant.3 c.close_before-found.ensures.frame) c.report-found.ensures.frame,
+        grown_ties.goes _ _ _ (grown_ties.goes _ _ _ c.loop-line.invariant.3 c.close_before.ensures.frame) c.report.ensures.frame,
       );
+      lent = c.report.ensures.lent ∙ (c.close_before.ensures.lent ∙ c.loop-line.invariant.4);
     }
 
 pub loop-line-preserved : goal.loop-line-preserved
 loop-line-preserved g c =
-    let S = setting c.args.today (g.R.Rule.daylight c.args.rule.now) in
+    let S = told g.R.Rule.daylight c.args.setting.now in
     let e = length c.args.text.now in
     let σ = stage_of c.loop-line.machine in
     let l = line_piece c.in-Some.line in
     let ls = lines_ahead c.next_line.new.self in
     let gave = c.in-Some.ensures.1 in
     let tie = subst (λ (x : List Piece). Tied c.loop-line.machine x) gave.next c.loop-line.invariant.1 in
-    let here = turn_refused (ends_here σ l) (records_here σ l) (turn_renamed c.loop-line.invariant.0 (ap (to_come S e σ) gave.next ∙ to_come-line S e σ l ls)) c.close_before-found.ensures.list c.close_before-found.ensures.count in
-    let stopped = turn_stopped (came S (next S σ l)) (behind_line S e ls) (stretches S e (cut ls).1) c.in-Err.fault here (c.in-Err.ensures.cases gave.fits tie) c.in_default-refusal.not-NoRoom c.report-found.ensures.list c.report-found.ensures.count in (
+    let here = turn_refused (ends_here σ l) (records_here σ l) (turn_renamed c.loop-line.invariant.0 (ap (to_come S e σ) gave.next ∙ to_come-line S e σ l ls)) c.close_before.ensures.list c.close_before.ensures.count in
+    let stopped = turn_stopped (came S (next S σ l)) (behind_line S e ls) (stretches S e (cut ls).1) c.in-Err.fault here (c.in-Err.ensures.cases tie) c.in_default-refusal.not-NoRoom c.report.ensures.list c.report.ensures.count in (
       turn_renamed stopped (to_come_skipping S e ls ∙ ap (λ τ. to_come S e τ ls) (sym c.skip.ensures.stage)),
       c.skip.ensures.tied ls,
       g.S.Sink.ties.goes _ _ _ c.loop-line.invariant.2 c.take_line.ensures.frame,
-      grown_ties.goes _ _ _ (grown_ties.goes _ _ _ c.loop-line.invariant.3 c.close_before-found.ensures.frame) c.report-found.ensures.frame,
+      grown_ties.goes _ _ _ (grown_ties.goes _ _ _ c.loop-line.invariant.3 c.close_before.ensures.frame) c.report.ensures.frame,
+      c.report.ensures.lent ∙ (c.close_before.ensures.lent ∙ c.loop-line.invariant.4),
     )
 
 pub returns : goal.returns
 returns g c =
-    let S = setting c.args.today (g.R.Rule.daylight c.args.rule.now) in
+    let S = told g.R.Rule.daylight c.args.setting.now in
     let e = length c.args.text.now in
     let σ = stage_of c.loop-line.machine in
-    let end = turn_refused (closing σ e) (records_end σ e) (turn_renamed c.loop-line.invariant.0 (ap (to_come S e σ) c.in_default.ensures.1.0 ∙ to_come_end S e σ)) c.close_at-found.ensures.list c.close_at-found.ensures.count in
+    let end = turn_refused (closing σ e) (records_end σ e) (turn_renamed c.loop-line.invariant.0 (ap (to_come S e σ) c.in_default.ensures.1.0 ∙ to_come_end S e σ)) c.close_at.ensures.list c.close_at.ensures.count in
     record {
-      done = turn_ended _ end refl (omega (arith, c.saturating_sub-delivered-2.ensures, c.count-2.ensures, c.count-held.ensures)) refl;
-      frame = (c.loop-line.invariant.2, grown_ties.goes _ _ _ c.loop-line.invariant.3 c.close_at-found.ensures.frame);
+      done = turn_ended Whole end refl;
+      frame = (c.loop-line.invariant.2, grown_ties.goes _ _ _ c.loop-line.invariant.3 c.close_at.ensures.frame);
+      lent = c.close_at.ensures.lent ∙ c.loop-line.invariant.4;
     }

@@ -1,11 +1,12 @@
-use Rattle.std.proofs.Common.{◌+◌, List, IfOk, sym, refl, ap, ◌∙◌, subst, arith}
+use Rattle.std.proofs.Common.{◌+◌, List, not, IfOk, sym, refl, ap, ◌∙◌, subst, arith}
 use Rattle.std.proofs.lemmas.Result.{err_from_is_err_and}
 use Rattle.events.proofs.Passes.{comes_err}
 use Rattle.items.specs.Items.{body_items}
 use Rattle.merging.specs.Merging.{filled, from_header, parts_ahead}
 use Rattle.items.specs.Steps.{items_ahead}
 use Rattle.items.specs.Words.{word_parts}
-use Rattle.messages.specs.Models.{setting, common, reached}
+use Rattle.daylight.specs.Settings.{told}
+use Rattle.messages.specs.Models.{common, reached}
 use Rattle.reader.specs.Lines.{Piece, line_piece}
 use Rattle.record.specs.Entries.{name}
 use Rattle.record.specs.Stations.{station_of}
@@ -19,7 +20,7 @@ use Rattle.stages.proofs.stage.Machine.read_body.Goals as goal
 
 pub returns-then-not-is_readable : goal.returns-then-not-is_readable
 returns-then-not-is_readable g c =
-    let S = setting c.args.today (g.R.Rule.daylight c.args.rule.now) in
+    let S = told g.R.Rule.daylight c.args.setting.now in
     let o = c.args.held in
     record {
       cases = line_refused S _ (body_unreadable (common o.message) (standing o.terms) (header_of c.args.self.now o.number) (line_piece c.args.line) (sym c.is_readable.ensures ∙ c.if-not-is_readable.true) ∙ ap refuses (sym c.at.ensures)) (why.Unreadable, ap (λ x. x.refusal) c.at.ensures);
@@ -27,68 +28,68 @@ returns-then-not-is_readable g c =
       frame = g.S.Sink.ties.stays _;
     }
 
-pub returns-then-not-is_some : goal.returns-then-not-is_some
-returns-then-not-is_some g c =
-    let S = setting c.args.today (g.R.Rule.daylight c.args.rule.now) in
+pub returns-then-is_none : goal.returns-then-is_none
+returns-then-is_none g c =
+    let S = told g.R.Rule.daylight c.args.setting.now in
     let o = c.args.held in
     record {
-      cases = line_onto S _ (body_blank (common o.message) (standing o.terms) (header_of c.args.self.now o.number) (line_piece c.args.line) (sym c.is_readable.ensures ∙ c.if-not-is_readable.false) (no_word_blank word_parts c.next_word.result c.args.line.part.now c.next_word.ensures.value (sym c.is_some.ensures ∙ c.if-not-is_some.true)));
+      cases = line_onto S _ (body_blank (common o.message) (standing o.terms) (header_of c.args.self.now o.number) (line_piece c.args.line) (sym c.is_readable.ensures ∙ c.if-not-is_readable.false) (no_word_blank word_parts c.next_word.result c.args.line.part.now c.next_word.ensures.value (c.is_none.ensures ∙ ap not c.if-is_none.true)));
       tied = λ rest. tt;
       frame = g.S.Sink.ties.stays _;
     }
 
 pub returns-in_err-station : goal.returns-in_err-station
 returns-in_err-station g c =
-    let S = setting c.args.today (g.R.Rule.daylight c.args.rule.now) in
+    let S = told g.R.Rule.daylight c.args.setting.now in
     let p = err_from_is_err_and c.from_residual.result c.from_residual.ensures.1 in
     let o = c.args.held in
     let l = line_piece c.args.line in
-    let is = c.in_err-station.ensures.value c.requires in
+    let is = c.in_err-station.ensures.value in
     record {
       cases = comes_err _ _ _ _ p.1 p.2 (line_refused S _ (body_refused (common o.message) (standing o.terms) (header_of c.args.self.now o.number) l _ (sym c.is_readable.ensures ∙ c.if-not-is_readable.false)
-          (word_not_blank word_parts c.next_word.result c.args.line.part.now c.next_word.ensures.value (sym c.is_some.ensures ∙ c.if-not-is_some.false)) is) (field_says why.Station station_of l 0 _ is));
+          (word_not_blank word_parts c.next_word.result c.args.line.part.now c.next_word.ensures.value (c.is_none.ensures ∙ ap not c.if-is_none.false)) is) (field_says why.Station station_of l 0 _ is));
       tied = subst (λ x. IfOk x (λ _. (rest : List Piece) → Tied c.args.self.now rest)) (sym p.1) tt;
       frame = g.S.Sink.ties.stays _;
     }
 
-pub returns-in_err-read_line : goal.returns-in_err-read_line
-returns-in_err-read_line g c =
-    let S = setting c.args.today (g.R.Rule.daylight c.args.rule.now) in
-    let p = err_from_is_err_and c.from_residual-in_err-read_line.result c.from_residual-in_err-read_line.ensures.1 in
+pub returns-in_err-read_parts : goal.returns-in_err-read_parts
+returns-in_err-read_parts g c =
+    let S = told g.R.Rule.daylight c.args.setting.now in
+    let p = err_from_is_err_and c.from_residual-in_err-read_parts.result c.from_residual-in_err-read_parts.ensures.1 in
     let o = c.args.held in
     let l = line_piece c.args.line in
     let m = common o.message in
     let n = name c.in_ok-station.station in
     let from = c.in_ok-station.from in
     let hs = header_of c.args.self.now o.number in
-    let own = c.of_body-own.ensures.placed (omega (arith, c.split_at.ensures.back_len, c.requires)) ∙ ap (body_items (c.args.line.place + from)) c.split_at.ensures.back in
+    let own = c.of_body-own.ensures.placed (omega (arith, c.split_at.ensures.back_len, c.args.line.fits)) ∙ ap (body_items (c.args.line.place + from)) c.split_at.ensures.back in
     let at = c.new-parts.ensures ∙ ap (λ x. from_header (filled x) (items_ahead c.of_body-own.result)) c.new-header.ensures ∙ ap (from_header (filled hs)) own in
     record {
       cases = comes_err _ _ _ _ p.1 p.2 (line_stopped S (of_station m n) (reached c.new.result) (parts_ahead c.new-parts.result) (λ _. body m (standing o.terms) hs)
           (body_reads m (standing o.terms) hs l (n, from) (reached c.new.result) (parts_ahead c.new-parts.result) (sym c.is_readable.ensures ∙ c.if-not-is_readable.false)
-          (word_not_blank word_parts c.next_word.result c.args.line.part.now c.next_word.ensures.value (sym c.is_some.ensures ∙ c.if-not-is_some.false)) (c.in_ok-station.ensures.value c.requires) c.new.ensures at)
-          c.in_err-read_line.ensures.cases);
+          (word_not_blank word_parts c.next_word.result c.args.line.part.now c.next_word.ensures.value (c.is_none.ensures ∙ ap not c.if-is_none.false)) c.in_ok-station.ensures.value c.new.ensures at)
+          c.in_err-read_parts.ensures.cases);
       tied = subst (λ x. IfOk x (λ _. (rest : List Piece) → Tied c.args.self.now rest)) (sym p.1) tt;
-      frame = c.read_line.ensures.frame;
+      frame = c.read_parts.ensures.frame;
     }
 
 pub returns : goal.returns
 returns g c =
-    let S = setting c.args.today (g.R.Rule.daylight c.args.rule.now) in
+    let S = told g.R.Rule.daylight c.args.setting.now in
     let o = c.args.held in
     let l = line_piece c.args.line in
     let m = common o.message in
     let n = name c.in_ok-station.station in
     let from = c.in_ok-station.from in
     let hs = header_of c.args.self.now o.number in
-    let own = c.of_body-own.ensures.placed (omega (arith, c.split_at.ensures.back_len, c.requires)) ∙ ap (body_items (c.args.line.place + from)) c.split_at.ensures.back in
+    let own = c.of_body-own.ensures.placed (omega (arith, c.split_at.ensures.back_len, c.args.line.fits)) ∙ ap (body_items (c.args.line.place + from)) c.split_at.ensures.back in
     let at = c.new-parts.ensures ∙ ap (λ x. from_header (filled x) (items_ahead c.of_body-own.result)) c.new-header.ensures ∙ ap (from_header (filled hs)) own in
     record {
       cases = line_read S (of_station m n) (reached c.new.result) _ (parts_ahead c.new-parts.result) (λ _. body m (standing o.terms) hs) _
           (body_reads m (standing o.terms) hs l (n, from) (reached c.new.result) (parts_ahead c.new-parts.result) (sym c.is_readable.ensures ∙ c.if-not-is_readable.false)
-          (word_not_blank word_parts c.next_word.result c.args.line.part.now c.next_word.ensures.value (sym c.is_some.ensures ∙ c.if-not-is_some.false)) (c.in_ok-station.ensures.value c.requires) c.new.ensures at)
-          c.in_ok-read_line.ensures.cases
+          (word_not_blank word_parts c.next_word.result c.args.line.part.now c.next_word.ensures.value (c.is_none.ensures ∙ ap not c.if-is_none.false)) c.in_ok-station.ensures.value c.new.ensures at)
+          c.in_ok-read_parts.ensures.cases
           refl;
       tied = λ rest. tt;
-      frame = c.read_line.ensures.frame;
+      frame = c.read_parts.ensures.frame;
     }

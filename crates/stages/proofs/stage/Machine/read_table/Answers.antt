@@ -1,5 +1,6 @@
 use Rattle.std.proofs.Common.{sym, ap, ◌∙◌}
-use Rattle.messages.specs.Models.{setting, common}
+use Rattle.daylight.specs.Settings.{told}
+use Rattle.messages.specs.Models.{common}
 use Rattle.reader.specs.Lines.{line_piece}
 use Rattle.refusals.specs.declared.MessageRefusal.TheVariants as why
 use Rattle.terms.specs.Standing.{standing}
@@ -10,7 +11,7 @@ use Rattle.stages.proofs.stage.Machine.read_table.Goals as goal
 
 pub returns-in_default : goal.returns-in_default
 returns-in_default g c =
-    let S = setting c.args.today (g.R.Rule.daylight c.args.rule.now) in
+    let S = told g.R.Rule.daylight c.args.setting.now in
     let o = c.args.held in
     record {
       cases = line_refused S _ (in_body_refuses (common o.message) (standing o.terms) (header_of c.args.self.now o.number) (line_piece c.args.line) c.args.kind c.in_default.not-Other c.in_default.not-End ∙ ap refuses (sym c.at.ensures)) (why.Unfinished, ap (λ x. x.refusal) c.at.ensures);

@@ -1,15 +1,16 @@
 use Rattle.std.proofs.Common.{◌∷◌, sym, ap, ◌∙◌, subst}
-use Rattle.messages.specs.Models.{setting, common, reached}
+use Rattle.daylight.specs.Settings.{told}
+use Rattle.messages.specs.Models.{common, reached}
 use Rattle.reader.specs.Lines.{line_piece, lines_ahead}
 use Rattle.terms.specs.Standing.{standing}
 use Rattle.stages.specs.Machines.{header_of, stage_with, TiedAt}
 use Rattle.stages.specs.Stages.{by_kind, header, next, outside}
 use Rattle.stages.proofs.Moving.{no_opening, comes_as, outside_comes, made_any}
-use Rattle.stages.proofs.stage.Machine.step.Goals as goal
+use Rattle.stages.proofs.stage.Machine.take_line.Goals as goal
 
 pub returns-in-Outside-default : goal.returns-in-Outside-default
 returns-in-Outside-default g c =
-    let S = setting c.args.today (g.R.Rule.daylight c.args.rule.now) in
+    let S = told g.R.Rule.daylight c.args.setting.now in
     let l = line_piece c.args.line in
     let m = c.args.self.now in
     let same = sym c.in-Outside-default.is-0 in
@@ -22,7 +23,7 @@ returns-in-Outside-default g c =
 
 pub returns-in-Header-default : goal.returns-in-Header-default
 returns-in-Header-default g c =
-    let S = setting c.args.today (g.R.Rule.daylight c.args.rule.now) in
+    let S = told g.R.Rule.daylight c.args.setting.now in
     let l = line_piece c.args.line in
     let ls = lines_ahead c.args.behind in
     let m = c.args.self.now in
