@@ -13,45 +13,22 @@ use std::alloc::{AllocError, Global};
 
 const LINE_LENGTH: usize = 80;
 
-// Whether the listing's bytes from a place on are a line and its line feed.
-fn is_line(listing: &[u8], from: usize, line: &str) -> bool {
-    let mut at = from;
-    for b in line.bytes() {
-        if at >= listing.len() || listing[at] != b {
-            return false;
-        }
-        at = at.saturating_add(1);
-    }
-    at < listing.len() && listing[at] == b'\n' && at.saturating_sub(from) == LINE_LENGTH - 1
-}
-
-// Whether the listing has these lines and no others.
+// Whether the listing has these lines, each with a line feed behind it, and no others.
 fn same_lines(listing: &[u8], lines: &[String]) -> bool {
-    if listing.len() != lines.len().saturating_mul(LINE_LENGTH) {
-        return false;
-    }
-    for (i, line) in lines.iter().enumerate() {
-        if !is_line(listing, i.saturating_mul(LINE_LENGTH), line.as_str()) {
-            return false;
-        }
-    }
-    true
+    listing.len() == lines.len().saturating_mul(LINE_LENGTH)
+        && listing.chunks(LINE_LENGTH).zip(lines.iter()).all(|(chunk, line)| chunk.strip_suffix(
+            b"\n",
+        ) == Some(line.as_bytes()))
 }
 
-fn same_faults(faults: &[Fault], told: &[(u8, usize)]) -> bool {
-    if faults.len() != told.len() {
-        return false;
-    }
-    for (a, b) in faults.iter().zip(told.iter()) {
-        if a.refusal.number() != b.0 || a.place != b.1 {
-            return false;
-        }
-    }
-    true
+fn same_faults(faults: &[Fault], told: &[second::Fault]) -> bool {
+    faults.len() == told.len()
+        && faults.iter().zip(told.iter()).all(|(a, b)| a.refusal.number() == b.refusal.number()
+            && a.place == b.place)
 }
 
 fn same_answer(answer: Answer, outcome: &Outcome) -> bool {
-    answer.number == outcome.answer
+    answer.ending.number() == outcome.answer.number()
         && answer.delivered == outcome.records.len()
         && answer.found == outcome.faults.len() as u64
 }
@@ -66,12 +43,8 @@ pub fn compare(
     outcome: &Outcome,
 ) -> Result<bool, AllocError> {
     let room = case.room.min(text.len().saturating_add(1));
-    let none = Fault {
-        refusal: Refusal::NoRoom,
-        place: 0,
-    };
     let mut bytes = vec![in heap; 0u8; room.saturating_mul(LINE_LENGTH)]?;
-    let mut places = vec![in heap; none; text.len().saturating_add(2)]?;
+    let mut places = vec![in heap; Refusal::NoRoom.at(0); text.len().saturating_add(2)]?;
     let mut log = Listing::new(&mut bytes);
     let mut faults = Slots::new(&mut places);
     let today = Date {

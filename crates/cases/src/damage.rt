@@ -1,11 +1,11 @@
 // Damage of single bytes.
 use std::alloc::{AllocError, Global};
 
-#[derive(Clone, Copy)]
+#[derive(Clone, Copy, Debug, PartialEq, Eq)]
 pub enum Harm {
     Lost,
     Doubled,
-    Changed { to: u8 },
+    Changed(u8),
 }
 
 // Bytes that mean something in a message, and some that stand in none.
@@ -16,33 +16,26 @@ const SIGNS: [u8; 24] = [
 
 // The harm done to the byte at a place in a round: another byte each round after the first two.
 pub fn harm_at(place: usize, round: usize) -> Harm {
-    if round == 0 {
-        return Harm::Lost;
-    }
-    if round == 1 {
-        return Harm::Doubled;
-    }
-    let turn = place.wrapping_mul(7).wrapping_add(round.wrapping_mul(5));
-    Harm::Changed {
-        to: SIGNS[turn % 24],
+    match round {
+        0 => Harm::Lost,
+        1 => Harm::Doubled,
+        _ => {
+            let turn = place.wrapping_mul(7).wrapping_add(round.wrapping_mul(5));
+            Harm::Changed(SIGNS[turn % SIGNS.len()])
+        }
     }
 }
 
 // The text with harm done to the byte at a place.
 pub fn damaged(heap: Global, text: &[u8], at: usize, harm: Harm) -> Result<Vec<u8>, AllocError> {
-    let mut out = Vec::new(heap);
-    for (i, b) in text.iter().enumerate() {
-        if i != at {
-            out.push(*b)?;
-            continue;
-        }
+    let mut out = text.to_vec(heap)?;
+    if at < text.len() {
         match harm {
-            Harm::Lost => {}
-            Harm::Doubled => {
-                out.push(*b)?;
-                out.push(*b)?;
+            Harm::Lost => {
+                out.remove(at);
             }
-            Harm::Changed { to } => out.push(to)?,
+            Harm::Doubled => out.insert(at, text[at])?,
+            Harm::Changed(to) => out[at] = to,
         }
     }
     Ok(out)

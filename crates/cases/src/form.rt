@@ -17,82 +17,45 @@ pub struct Case {
     pub day: u8,
     pub room: usize,
     pub text: Vec<u8>,
-    // Whether the outcome is told, and its lines.
-    pub told: bool,
-    pub outcome: Vec<String>,
+    // The lines of the outcome, where it is told.
+    pub outcome: Option<Vec<String>>,
 }
 
-pub fn count_of(cases: &str) -> usize {
-    let mut count: usize = 0;
-    for line in cases.lines() {
-        if line.starts_with("=== ") {
-            count = count.saturating_add(1);
-        }
-    }
-    count
-}
-
-// The case at a place, counted from 0. One that is not there is empty.
-pub fn case_of(heap: Global, cases: &str, at: usize) -> Result<Case, AllocError> {
-    let mut case = empty(heap);
-    let mut left = at;
-    let mut inside = false;
-    for line in cases.lines() {
+// The cases of a list, in their order.
+pub fn read_list(heap: Global, list: &str) -> Result<Vec<Case>, AllocError> {
+    let mut cases = Vec::new(heap);
+    for line in list.lines() {
         if let Some(head) = line.strip_prefix("=== ") {
-            if inside {
-                return Ok(case);
-            }
-            if left == 0 {
-                inside = true;
-                case.put_head(head)?;
-            } else {
-                left -= 1;
-            }
-        } else if inside {
+            cases.push(begun(heap, head)?)?;
+        } else if let Some(case) = cases.last_mut() {
             case.put_line(heap, line)?;
         }
     }
-    Ok(case)
+    Ok(cases)
 }
 
-fn empty(heap: Global) -> Case {
-    Case {
-        name: String::new(heap),
-        year: 0,
-        month: 0,
-        day: 0,
-        room: 0,
+// The case with what its first line says.
+fn begun(heap: Global, head: &str) -> Result<Case, AllocError> {
+    let (date, behind) = head.split_once(' ').unwrap_or((head, ""));
+    let (room, name) = behind.split_once(' ').unwrap_or((behind, ""));
+    let date = date.parse::<u32>().unwrap_or(0);
+    Ok(Case {
+        name: String::from_str(heap, name)?,
+        year: (date / 10_000 % 10_000) as u16,
+        month: (date / 100 % 100) as u8,
+        day: (date % 100) as u8,
+        room: room.parse::<usize>().unwrap_or(0),
         text: Vec::new(heap),
-        told: false,
-        outcome: Vec::new(heap),
-    }
+        outcome: None,
+    })
 }
 
 impl Case {
-    fn put_head(&mut self, head: &str) -> Result<(), AllocError> {
-        for (i, word) in head.split(' ').enumerate() {
-            let number = word.parse::<u32>().unwrap_or(0);
-            if i == 0 {
-                self.year = (number / 10_000 % 10_000) as u16;
-                self.month = (number / 100 % 100) as u8;
-                self.day = (number % 100) as u8;
-            } else if i == 1 {
-                self.room = number as usize;
-            } else {
-                if i > 2 {
-                    self.name.push(' ')?;
-                }
-                self.name.push_str(word)?;
-            }
-        }
-        Ok(())
-    }
-
     fn put_line(&mut self, heap: Global, line: &str) -> Result<(), AllocError> {
-        if self.told {
-            self.outcome.push(String::from_str(heap, line)?)?;
+        if let Some(outcome) = &mut self.outcome {
+            outcome.push(String::from_str(heap, line)?)?;
         } else if line == "---" {
-            self.told = true;
+            self.outcome = Some(Vec::new(heap));
         } else {
             put_text(&mut self.text, line)?;
         }
@@ -100,57 +63,32 @@ impl Case {
     }
 }
 
-fn hexadecimal(b: u8) -> u8 {
-    match b {
-        b'0'..=b'9' => b - b'0',
-        b'a'..=b'f' => b - b'a' + 10,
-        _ => 0,
+// A line of a text, with what stands in braces written out.
+fn put_text(text: &mut Vec<u8>, line: &str) -> Result<(), AllocError> {
+    let mut pieces = line.split('{');
+    text.extend_from_slice(pieces.next().unwrap_or("").as_bytes())?;
+    let mut ended = true;
+    for piece in pieces {
+        let (braced, behind) = piece.split_once('}').unwrap_or((piece, ""));
+        if braced == "." {
+            ended = false;
+        } else {
+            put_bytes(text, braced)?;
+        }
+        text.extend_from_slice(behind.as_bytes())?;
     }
-}
-
-fn put_many(text: &mut Vec<u8>, b: u8, count: usize) -> Result<(), AllocError> {
-    for _ in 0..count {
-        text.push(b)?;
+    if ended {
+        text.push(b'\n')?;
     }
     Ok(())
 }
 
-// A line of a text, with what stands in braces written out.
-fn put_text(text: &mut Vec<u8>, line: &str) -> Result<(), AllocError> {
-    let mut braced = false;
-    let mut starred = false;
-    let mut ended = true;
-    let mut byte: u8 = 0;
-    let mut count: usize = 0;
-    for b in line.bytes() {
-        if !braced {
-            if b == b'{' {
-                braced = true;
-                starred = false;
-                byte = 0;
-                count = 0;
-            } else {
-                text.push(b)?;
-            }
-        } else if b == b'.' {
-            ended = false;
-        } else if b == b'*' {
-            starred = true;
-        } else if b == b'}' {
-            braced = false;
-            if ended {
-                put_many(text, byte, if starred { count } else { 1 })?;
-            }
-        } else if starred {
-            count = count
-                .saturating_mul(10)
-                .saturating_add(usize::from(hexadecimal(b)));
-        } else {
-            byte = byte.wrapping_mul(16).wrapping_add(hexadecimal(b));
-        }
-    }
-    if ended {
-        text.push(10)?;
+// One byte by its number, or so many of it.
+fn put_bytes(text: &mut Vec<u8>, braced: &str) -> Result<(), AllocError> {
+    let (digits, count) = braced.split_once('*').unwrap_or((braced, "1"));
+    let byte = u8::from_str_radix(digits, 16).unwrap_or(0);
+    for _ in 0..count.parse::<usize>().unwrap_or(0) {
+        text.push(byte)?;
     }
     Ok(())
 }

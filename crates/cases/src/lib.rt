@@ -12,19 +12,14 @@ mod values;
 mod worked;
 
 pub use damage::{Harm, damaged, harm_at};
-pub use form::{Case, case_of, count_of};
+pub use form::{Case, read_list};
 
-pub const LISTS: usize = 6;
-
-// The lists of cases, counted from 0, in the form that `case_of` reads.
-pub fn list(at: usize) -> Option<&'static str> {
-    match at {
-        0 => Some(worked::WORKED),
-        1 => Some(structure::STRUCTURE),
-        2 => Some(tables::TABLES),
-        3 => Some(times::TIMES),
-        4 => Some(settings::SETTINGS),
-        5 => Some(values::VALUES),
-        _ => None,
-    }
-}
+// The lists of cases, each in the form that `read_list` reads.
+pub const LISTS: [&str; 6] = [
+    worked::WORKED,
+    structure::STRUCTURE,
+    tables::TABLES,
+    times::TIMES,
+    settings::SETTINGS,
+    values::VALUES,
+];

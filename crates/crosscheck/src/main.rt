@@ -23,11 +23,9 @@ impl Peer for First {
 }
 
 fn run(rt: &HostRuntime) -> anyhow::Result<()> {
-    let mut sum = reporting::NONE;
-    for at in 0..cases::LISTS {
-        if let Some(list) = cases::list(at) {
-            sum = sum.with(trials::try_list(rt, rt.alloc(), &First, list)?);
-        }
+    let mut sum = reporting::Tally::default();
+    for list in cases::LISTS {
+        sum = sum + trials::try_list(rt, &First, list)?;
     }
     reporting::closing(rt, sum)
 }

@@ -5,4 +5,4 @@ mod single;
 mod tally;
 
 pub use single::{case_line, is_as_told, show_difference};
-pub use tally::{NONE, Tally, closing, counted, show_tally};
+pub use tally::{Tally, closing, show_tally};

@@ -1,9 +1,10 @@
-use anyhow::anyhow;
+use anyhow::ensure;
 use second::Outcome;
-use telling::{put_number, say};
+use std::fmt;
+use std::ops::Add;
 
 // What a number of decodes came to.
-#[derive(Clone, Copy)]
+#[derive(Clone, Copy, Debug, Default, PartialEq, Eq)]
 pub struct Tally {
     pub texts: usize,
     pub records: usize,
@@ -11,15 +12,11 @@ pub struct Tally {
     pub differing: usize,
 }
 
-pub const NONE: Tally = Tally {
-    texts: 0,
-    records: 0,
-    faults: 0,
-    differing: 0,
-};
+// Of both together; a count that does not fit stays at the greatest one.
+impl Add for Tally {
+    type Output = Tally;
 
-impl Tally {
-    pub fn with(self, other: Tally) -> Tally {
+    fn add(self, other: Tally) -> Tally {
         Tally {
             texts: self.texts.saturating_add(other.texts),
             records: self.records.saturating_add(other.records),
@@ -29,36 +26,44 @@ impl Tally {
     }
 }
 
-pub fn counted(outcome: &Outcome, good: bool) -> Tally {
-    let differing = if good { 0 } else { 1 };
-    Tally {
-        texts: 1,
-        records: outcome.records.len(),
-        faults: outcome.faults.len(),
-        differing,
+impl fmt::Display for Tally {
+    fn fmt<W: fmt::Write>(&self, f: &mut fmt::Formatter<W>) -> fmt::Result {
+        let records = self.records;
+        let faults = self.faults;
+        let differing = self.differing;
+        write!(
+            f,
+            "{records} records, {faults} faults, {differing} differing"
+        )
     }
 }
 
-pub fn show_tally(rt: &HostRuntime, what: &str, t: Tally) -> anyhow::Result<()> {
-    let heap = rt.alloc();
-    let mut line = String::new(heap);
-    put_number(heap, &mut line, t.texts, " ")?;
-    line.push_str(what)?;
-    line.push_str(": ")?;
-    put_number(heap, &mut line, t.records, " records, ")?;
-    put_number(heap, &mut line, t.faults, " faults, ")?;
-    put_number(heap, &mut line, t.differing, " differing")?;
-    say(rt, line.as_str())
+impl Tally {
+    // Of one text.
+    pub fn of(outcome: &Outcome, good: bool) -> Tally {
+        Tally {
+            texts: 1,
+            records: outcome.records.len(),
+            faults: outcome.faults.len(),
+            differing: usize::from(!good),
+        }
+    }
+}
+
+pub fn show_tally(rt: &HostRuntime, what: &str, tally: Tally) -> anyhow::Result<()> {
+    let texts = tally.texts;
+    println!(rt; "{texts} {what}: {tally}")?;
+    Ok(())
 }
 
 // Ends well only where every text came out as told and alike from both decoders.
 pub fn closing(rt: &HostRuntime, sum: Tally) -> anyhow::Result<()> {
     show_tally(rt, "texts in all", sum)?;
-    if sum.differing > 0 {
-        return Err(anyhow!("the decoders differ, or a case is not as told"));
-    }
-    let heap = rt.alloc();
-    let mut line = String::new(heap);
-    put_number(heap, &mut line, sum.texts, " texts, both decoders agree")?;
-    say(rt, line.as_str())
+    ensure!(
+        sum.differing == 0,
+        "the decoders differ, or a case is not as told"
+    );
+    let texts = sum.texts;
+    println!(rt; "{texts} texts, both decoders agree")?;
+    Ok(())
 }

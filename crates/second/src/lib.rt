@@ -3,4 +3,6 @@
 
 mod messages;
 
-pub use messages::{Outcome, decode};
+pub use messages::{Answer, Outcome, decode};
+pub use second_items::refusals::{Fault, Refusal};
+pub use second_time::days::Day;

@@ -1,75 +1,75 @@
 // The lines of a text: what begins, continues and ends a message.
-use second_items::items;
-use second_items::reader::{Message, Mode, Reader, Trouble};
-use second_listing::Name;
+use second_items::reader::{Log, Message, Mode, Reader};
+use second_items::refusals::{Fault, Refusal, Trouble};
+use second_listing::{Name, Series};
 use second_state::state;
-use second_text::lines::{Kind, Span};
+use second_text::lines::{Form, Kind, Letters};
+use second_text::parts::Part;
 use second_text::{items as pieces, lines, words};
 use second_time::days::Day;
 use second_time::zones::Zone;
 use second_time::{dates, days, zones};
 use std::alloc::{AllocError, Global};
 
-// What a decode gives: its answer, the listing lines without line feeds, and the faults with
-// number and place.
-#[derive(Drop)]
-pub struct Outcome {
-    pub answer: u8,
-    pub records: Vec<String>,
-    pub faults: Vec<(u8, usize)>,
+// How a decode ends: at the end of the text, before it begins since the current date is no day that
+// counts, or at a record that finds no room.
+#[derive(Clone, Copy, Debug, PartialEq, Eq)]
+pub enum Answer {
+    Ended = 0,
+    CurrentDate = 1,
+    NoRoom = 14,
 }
 
-// The fields of an opening, and where its items begin.
+impl Answer {
+    // The number by which users know it.
+    pub fn number(self) -> u8 {
+        self as u8
+    }
+}
+
+// What a decode gives: its answer, the listing lines without line feeds, and the faults.
+#[derive(Drop)]
+pub struct Outcome {
+    pub answer: Answer,
+    pub records: Vec<String>,
+    pub faults: Vec<Fault>,
+}
+
+// The fields of an opening, and its items.
 #[derive(Clone, Copy)]
-struct Fields {
+struct Fields<'a> {
     name: Name,
     date: Day,
     zone: Zone,
-    items: usize,
+    items: Part<'a>,
 }
 
-// The fields behind the letters, or the refusal with its place in the line.
-fn read_fields(text: &[u8], letters: usize, today: Day) -> Result<Fields, (u8, usize)> {
-    let Some(first) = words::word(text, letters) else {
-        return Err((4, text.len()));
-    };
-    let word = lines::part(text, first);
-    if !words::is_name(word) {
-        return Err((4, first.from));
+// The fields behind the letters.
+fn read_fields(text: Part<'_>, today: Day) -> Result<Fields<'_>, Fault> {
+    let (word, behind) = text.word().ok_or(Refusal::Station.at(text.end()))?;
+    if !words::is_name(word.bytes) {
+        return Err(Refusal::Station.at(word.place));
     }
-    let name = second_listing::padded(word);
-    let Some(second) = words::word(text, first.to) else {
-        return Err((5, text.len()));
-    };
-    let Some(date) = dates::read_date(today, lines::part(text, second)) else {
-        return Err((5, second.from));
-    };
-    let bare = Fields {
+    let name = second_listing::padded(word.bytes);
+    let (word, behind) = behind.word().ok_or(Refusal::Date.at(text.end()))?;
+    let date = dates::read_date(today, word.bytes).ok_or(Refusal::Date.at(word.place))?;
+    let zoned = behind
+        .word()
+        .and_then(|(word, items)| Some((zones::named(word.bytes)?, items)));
+    let (zone, items) = zoned.unwrap_or((zones::UTC, behind));
+    Ok(Fields {
         name,
         date,
-        zone: zones::UTC,
-        items: second.to,
-    };
-    let Some(third) = words::word(text, second.to) else {
-        return Ok(bare);
-    };
-    match zones::named(lines::part(text, third)) {
-        Some(zone) => Ok(Fields {
-            name,
-            date,
-            zone,
-            items: third.to,
-        }),
-        None => Ok(bare),
-    }
+        zone,
+        items,
+    })
 }
 
-fn message(form: u8, revised: bool, fields: Fields) -> Message {
+fn opened(letters: Letters, fields: Fields<'_>) -> Message {
     let hour = if fields.zone.behind == 0 { 12 } else { 24 };
     let opening = state::opened(fields.date, hour);
     Message {
-        form,
-        revised,
+        letters,
         name: fields.name,
         zone: fields.zone,
         opening,
@@ -77,193 +77,156 @@ fn message(form: u8, revised: bool, fields: Fields) -> Message {
         number: 0,
         code: None,
         steps: 0,
-        begun: false,
+        series: match letters.form {
+            Form::Series => Series::First,
+            Form::Single | Form::Table => Series::Apart,
+        },
     }
 }
 
-fn take_items(reader: &mut Reader, text: &[u8], from: usize, start: usize) -> Result<(), Trouble> {
-    let spans = pieces::message_items(reader.heap, text, from)?;
-    for span in spans.iter() {
-        reader.take_item(lines::part(text, *span), start.saturating_add(span.from))?;
+// A line with its comments turned to blanks, if it is fit to be read.
+fn readable(heap: Global, line: Part<'_>) -> Result<Vec<u8>, Trouble> {
+    if lines::is_unfit(line.bytes) {
+        return Err(Trouble::Found(Refusal::Unreadable.at(line.place)));
     }
+    Ok(lines::uncommented(heap, line.bytes)?)
+}
+
+// Items of a message, which is open behind them.
+fn take_items(reader: &mut Reader, mut message: Message, items: Part<'_>) -> Result<(), Trouble> {
+    let pieces = pieces::message_items(reader.log.heap, items)?;
+    for item in pieces.iter() {
+        reader.take_item(&mut message, *item)?;
+    }
+    reader.mode = Mode::InItems(message);
     Ok(())
 }
 
-fn take_opening(
-    reader: &mut Reader,
-    line: &[u8],
-    start: usize,
-    form: u8,
-    revised: bool,
-) -> Result<(), Trouble> {
-    if lines::is_unfit(line) {
-        return Err(items::refused(2, start));
-    }
-    let text = lines::uncommented(reader.heap, line)?;
-    let letters = if revised { 3 } else { 2 };
-    let fields = match read_fields(text.as_slice(), letters, reader.today) {
-        Ok(fields) => fields,
-        Err((number, at)) => return Err(items::refused(number, start.saturating_add(at))),
-    };
-    reader.message = message(form, revised, fields);
+fn take_opening(reader: &mut Reader, line: Part<'_>, letters: Letters) -> Result<(), Trouble> {
+    let bytes = readable(reader.log.heap, line)?;
+    let text = Part::new(bytes.as_slice(), line.place);
+    let fields = read_fields(letters.behind(text), reader.today)?;
     reader.heads.clear();
-    reader.mode = if form == b'B' {
-        Mode::InHeader
-    } else {
-        Mode::InSeries
-    };
-    take_items(reader, text.as_slice(), fields.items, start)
+    take_items(reader, opened(letters, fields), fields.items)
 }
 
-fn take_continuation(reader: &mut Reader, line: &[u8], start: usize) -> Result<(), Trouble> {
-    if lines::is_unfit(line) {
-        return Err(items::refused(2, start));
-    }
-    let text = lines::uncommented(reader.heap, line)?;
-    let number = reader.message.number.saturating_add(1);
-    let begun = words::continued(
-        text.as_slice(),
-        reader.message.form,
-        reader.message.revised,
-        number,
-    );
-    let Some(from) = begun else {
-        return Err(items::refused(3, start));
-    };
-    reader.message.number = number;
-    take_items(reader, text.as_slice(), from, start)
+fn take_continuation(reader: &mut Reader, line: Part<'_>, from: Message) -> Result<(), Trouble> {
+    let bytes = readable(reader.log.heap, line)?;
+    let text = Part::new(bytes.as_slice(), line.place);
+    let number = from.number.saturating_add(1);
+    let refused = Refusal::Continuation.at(line.place);
+    let items = words::continued(text, from.letters, number).ok_or(refused)?;
+    take_items(reader, Message { number, ..from }, items)
 }
 
-fn take_station(reader: &mut Reader, line: &[u8], start: usize) -> Result<(), Trouble> {
-    if lines::is_unfit(line) {
-        return Err(items::refused(2, start));
-    }
-    let text = lines::uncommented(reader.heap, line)?;
-    let Some(first) = words::word(text.as_slice(), 0) else {
+fn take_station(reader: &mut Reader, line: Part<'_>, table: &Message) -> Result<(), Trouble> {
+    let bytes = readable(reader.log.heap, line)?;
+    let text = Part::new(bytes.as_slice(), line.place);
+    let Some((word, behind)) = text.word() else {
         return Ok(());
     };
-    let word = lines::part(text.as_slice(), first);
-    if !words::is_name(word) {
-        return Err(items::refused(4, start.saturating_add(first.from)));
+    if !words::is_name(word.bytes) {
+        return Err(Trouble::Found(Refusal::Station.at(word.place)));
     }
-    let station = second_listing::padded(word);
-    let spans = pieces::body_items(reader.heap, text.as_slice(), first.to)?;
-    reader.take_body(station, text.as_slice(), spans.as_slice(), start)
+    let station = second_listing::padded(word.bytes);
+    let items = pieces::body_items(reader.log.heap, behind)?;
+    reader.take_body(table, station, items.as_slice())
 }
 
-fn in_table(reader: &Reader) -> bool {
-    match reader.mode {
-        Mode::InHeader | Mode::InBody => true,
-        _ => false,
+// The table that is open.
+fn open_table(mode: Mode) -> Option<Message> {
+    match mode {
+        Mode::InItems(message) | Mode::InBody(message) => {
+            Some(message).filter(|open| open.letters.form == Form::Table)
+        }
+        Mode::Outside | Mode::Skipping => None,
     }
 }
 
-fn take_line(reader: &mut Reader, line: &[u8], start: usize) -> Result<(), Trouble> {
+fn take_line(reader: &mut Reader, line: Part<'_>) -> Result<(), Trouble> {
     match lines::kind_of(line) {
-        Kind::Opening { form, revised } => {
-            if in_table(reader) {
-                reader.faults.push((13, start))?;
+        Kind::Opening(letters) => {
+            if open_table(reader.mode).is_some() {
+                reader.faults.push(Refusal::Unfinished.at(line.place))?;
             }
-            take_opening(reader, line, start, form, revised)
+            take_opening(reader, line, letters)
         }
         Kind::Continuation => match reader.mode {
-            Mode::Outside => Err(items::refused(3, start)),
-            Mode::InSeries | Mode::InHeader => take_continuation(reader, line, start),
-            Mode::InBody => Err(items::refused(13, start)),
+            Mode::Outside => Err(Trouble::Found(Refusal::Continuation.at(line.place))),
+            Mode::InItems(message) => take_continuation(reader, line, message),
+            Mode::InBody(_) => Err(Trouble::Found(Refusal::Unfinished.at(line.place))),
             Mode::Skipping => Ok(()),
         },
-        _ => take_other(reader, line, start),
+        kind => take_other(reader, line, kind),
     }
 }
 
 // A line that neither opens nor continues a message.
-fn take_other(reader: &mut Reader, line: &[u8], start: usize) -> Result<(), Trouble> {
+fn take_other(reader: &mut Reader, line: Part<'_>, kind: Kind) -> Result<(), Trouble> {
     if let Mode::Skipping = reader.mode {
         return Ok(());
     }
-    if in_table(reader) {
-        match lines::kind_of(line) {
-            Kind::Plain => {
-                reader.mode = Mode::InBody;
-                return take_station(reader, line, start);
-            }
-            Kind::End => {}
-            _ => return Err(items::refused(13, start)),
+    let Some(table) = open_table(reader.mode) else {
+        reader.mode = Mode::Outside;
+        return Ok(());
+    };
+    match kind {
+        Kind::Plain => {
+            reader.mode = Mode::InBody(table);
+            take_station(reader, line, &table)
         }
+        Kind::End => {
+            reader.mode = Mode::Outside;
+            Ok(())
+        }
+        _ => Err(Trouble::Found(Refusal::Unfinished.at(line.place))),
     }
-    reader.mode = Mode::Outside;
-    Ok(())
 }
 
-// Reads all lines, and answers 0, or 14 where a record found no room.
-fn take_all(reader: &mut Reader, text: &[u8], spans: &[Span]) -> Result<u8, AllocError> {
-    for span in spans {
-        match take_line(reader, lines::part(text, *span), span.from) {
+// Reads all lines, and what follows from the last one.
+fn take_all(reader: &mut Reader, text: &[u8]) -> Result<Answer, AllocError> {
+    let found = lines::lines(reader.log.heap, text)?;
+    for line in found.iter() {
+        match take_line(reader, *line) {
             Ok(()) => {}
             Err(Trouble::Memory) => return Err(AllocError),
-            Err(Trouble::Fault { number, place }) => {
-                reader.faults.push((number, place))?;
-                if number == 14 {
-                    return Ok(14);
+            Err(Trouble::Found(fault)) => {
+                reader.faults.push(fault)?;
+                if fault.refusal == Refusal::NoRoom {
+                    return Ok(Answer::NoRoom);
                 }
                 reader.mode = Mode::Skipping;
             }
         }
     }
-    if in_table(reader) {
-        reader.faults.push((13, text.len()))?;
+    if open_table(reader.mode).is_some() {
+        reader.faults.push(Refusal::Unfinished.at(text.len()))?;
     }
-    Ok(0)
-}
-
-// A reader outside any message.
-fn fresh(heap: Global, today: Day, room: usize) -> Reader {
-    let none = Fields {
-        name: second_listing::padded(b""),
-        date: today,
-        zone: zones::UTC,
-        items: 0,
-    };
-    Reader {
-        heap,
-        today,
-        room,
-        mode: Mode::Outside,
-        message: message(b'A', false, none),
-        heads: Vec::new(heap),
-        records: Vec::new(heap),
-        faults: Vec::new(heap),
-    }
+    Ok(Answer::Ended)
 }
 
 // Decodes a text under the daylight law, against a current date, into room for so many records.
-pub fn decode(
-    heap: Global,
-    text: &[u8],
-    year: u16,
-    month: u8,
-    day: u8,
-    room: usize,
-) -> Result<Outcome, AllocError> {
-    let today = Day { year, month, day };
-    let mut reader = fresh(heap, today, room);
-    let mut answer = 1;
-    if days::is_counted(today) {
-        let spans = lines::lines(heap, text)?;
-        answer = take_all(&mut reader, text, spans.as_slice())?;
+pub fn decode(heap: Global, text: &[u8], today: Day, room: usize) -> Result<Outcome, AllocError> {
+    let log = Log {
+        heap,
+        room,
+        records: Vec::new(heap),
+    };
+    let mut reader = Reader {
+        today,
+        mode: Mode::Outside,
+        heads: Vec::new(heap),
+        log,
+        faults: Vec::new(heap),
+    };
+    let answer = if days::is_counted(today) {
+        take_all(&mut reader, text)?
     } else {
-        reader.faults.push((1, 0))?;
-    }
-    let Reader {
-        records,
-        faults,
-        heap: _,
-        today: _,
-        room: _,
-        mode: _,
-        message: _,
-        heads: _,
-    } = reader;
+        reader.faults.push(Refusal::CurrentDate.at(0))?;
+        Answer::CurrentDate
+    };
+    let Reader { log, faults, .. } = reader;
+    let Log { records, .. } = log;
     Ok(Outcome {
         answer,
         records,

@@ -1,54 +1,73 @@
 // The items of a message: what each gives or changes.
-use crate::reader::{Head, Reader, Trouble};
-use second_listing::{Entry, Name};
+use crate::reader::{Head, Log, Message, Reader};
+use crate::refusals::{Fault, Refusal, Trouble};
+use second_listing::{Entry, Name, Series};
 use second_state::settings::Setting;
-use second_state::state::State;
+use second_state::state::{State, Units};
 use second_state::{settings, state};
-use second_text::lines::Span;
-use second_text::{lines, words};
+use second_text::lines::Form;
+use second_text::parts::Part;
+use second_time::days::Day;
 use second_value::codes::Code;
-use second_value::values::Bad;
 use second_value::{codes, elements, values};
 
 // A value on its way to a record.
 #[derive(Clone, Copy)]
-pub struct Sent {
-    pub station: Name,
-    pub source: Name,
-    pub code: Code,
-    pub state: State,
-    pub step: u64,
-    pub series: u8,
-    pub place: usize,
+struct Sent {
+    station: Name,
+    source: Name,
+    code: Code,
+    state: State,
+    step: u64,
+    series: Series,
+    place: usize,
 }
 
-pub fn refused(number: u8, place: usize) -> Trouble {
-    Trouble::Fault { number, place }
+impl Sent {
+    // A value for the station and in the state of a message.
+    fn of(message: &Message, code: Code, place: usize) -> Sent {
+        Sent {
+            station: message.name,
+            source: second_listing::padded(b""),
+            code,
+            state: message.state,
+            step: 0,
+            series: message.series,
+            place,
+        }
+    }
+}
+
+fn read_code(item: Part<'_>, text: &[u8]) -> Result<Code, Fault> {
+    codes::read_code(text).ok_or(Refusal::Code.at(item.place))
 }
 
 // The duration number of a code.
 fn duration(code: Code, state: State) -> Option<u16> {
-    if code.duration == b'V' {
-        return state.variable;
+    match code.duration {
+        b'V' => state.variable,
+        letter => elements::duration(letter),
     }
-    elements::duration(code.duration)
 }
 
-impl Reader {
-    fn log(&mut self, sent: Sent, text: &[u8]) -> Result<(), Trouble> {
-        let Some(duration) = duration(sent.code, sent.state) else {
-            return Err(refused(9, sent.place));
+impl Log {
+    // Keeps the record of a value.
+    fn take(&mut self, message: &Message, sent: Sent, text: &[u8]) -> Result<(), Trouble> {
+        let place = sent.place;
+        let element = sent.code.element;
+        let duration = duration(sent.code, sent.state).ok_or(Refusal::NoDuration.at(place))?;
+        let read = values::read_value(text, element).ok_or(Refusal::Value.at(place))?;
+        let value = match sent.state.units {
+            Units::English => read,
+            Units::Si => read
+                .from_si(element.conversion)
+                .ok_or(Refusal::TooLarge.at(place))?,
         };
-        let value = match values::read_value(text, sent.code.element, sent.state.si) {
-            Ok(value) => value,
-            Err(Bad::Unread) => return Err(refused(10, sent.place)),
-            Err(Bad::TooLarge) => return Err(refused(11, sent.place)),
-        };
-        let Some(observed) = state::observed(sent.state, self.message.zone, sent.step) else {
-            return Err(refused(12, sent.place));
-        };
+        let observed = state::observed(sent.state, message.zone, sent.step).ok_or(
+            Refusal::NoTime.at(place),
+        )?;
         if self.records.len() >= self.room {
-            return Err(refused(14, sent.place));
+            return Err(Trouble::Found(Refusal::NoRoom.at(place)));
         }
         let entry = Entry {
             station: sent.station,
@@ -57,7 +76,7 @@ impl Reader {
             code: sent.code,
             duration,
             value,
-            revised: self.message.revised,
+            revised: message.letters.revised,
             series: sent.series,
             source: sent.source,
         };
@@ -65,195 +84,139 @@ impl Reader {
         self.records.push(line)?;
         Ok(())
     }
+}
 
-    // What a D item sets, where it may stand.
-    fn setting(&self, item: &[u8], place: usize) -> Result<Setting, Trouble> {
-        let Some(found) = settings::read_setting(item, self.today, self.message.zone) else {
-            return Err(refused(6, place));
-        };
-        let series = self.message.form == b'E';
-        let allowed = match found {
-            Setting::Interval(_) => series && self.message.steps == 0,
-            Setting::Time(_) | Setting::Relative(_) => !series || self.message.steps == 0,
-            _ => true,
-        };
-        if allowed {
-            Ok(found)
-        } else {
-            Err(refused(6, place))
-        }
+// What a D item sets, where it may stand.
+fn setting(today: Day, message: &Message, item: Part<'_>) -> Result<Setting, Fault> {
+    let refused = Refusal::Setting.at(item.place);
+    let found = settings::read_setting(item.bytes, today, message.zone).ok_or(refused)?;
+    let series = message.letters.form == Form::Series;
+    let allowed = match found {
+        Setting::Interval(_) => series && message.steps == 0,
+        Setting::Time(_) | Setting::Relative(_) => !series || message.steps == 0,
+        _ => true,
+    };
+    if allowed { Ok(found) } else { Err(refused) }
+}
+
+// The D items of a header before its next column, and that column with what stands behind it.
+fn to_column(heads: &[Head]) -> Option<(&[Head], Code, &[Head])> {
+    let at = heads
+        .iter()
+        .position(|head| matches!(head, Head::Column(_)))?;
+    let (before, rest) = heads.split_at_checked(at)?;
+    match rest {
+        [Head::Column(code), behind @ ..] => Some((before, *code, behind)),
+        _ => None,
     }
+}
 
+// The state after D items of a header.
+fn settled(state: State, heads: &[Head]) -> State {
+    heads.iter().fold(state, |now, head| match head {
+        Head::Column(_) => now,
+        Head::Sets(setting) => settings::applied(now, *setting),
+    })
+}
+
+impl Reader {
     // An item of an opening or a continuation.
-    pub fn take_item(&mut self, item: &[u8], place: usize) -> Result<(), Trouble> {
-        if item.first().copied() == Some(b'D') {
-            let found = self.setting(item, place)?;
-            if self.message.form == b'B' {
+    pub fn take_item(&mut self, message: &mut Message, item: Part<'_>) -> Result<(), Trouble> {
+        if item.bytes.starts_with(b"D") {
+            let found = setting(self.today, message, item)?;
+            if message.letters.form == Form::Table {
                 self.heads.push(Head::Sets(found))?;
             } else {
-                self.message.state = settings::applied(self.message.state, found);
+                message.state = settings::applied(message.state, found);
             }
             return Ok(());
         }
-        if self.message.form == b'E' {
-            return self.take_step(item, place);
+        match message.letters.form {
+            Form::Single => self.take_pair(message, item),
+            Form::Table => self.take_head(item),
+            Form::Series => self.take_step(message, item),
         }
-        if item.is_empty() {
+    }
+
+    // A code of a table's header.
+    fn take_head(&mut self, item: Part<'_>) -> Result<(), Trouble> {
+        if item.bytes.is_empty() {
             return Ok(());
         }
-        if self.message.form == b'A' {
-            return self.take_pair(item, place);
-        }
-        let Some(code) = codes::read_code(item) else {
-            return Err(refused(7, place));
-        };
+        let code = read_code(item, item.bytes)?;
         self.heads.push(Head::Column(code))?;
         Ok(())
     }
 
     // A code and its value.
-    fn take_pair(&mut self, item: &[u8], place: usize) -> Result<(), Trouble> {
-        let Some(first) = words::word(item, 0) else {
+    fn take_pair(&mut self, message: &Message, item: Part<'_>) -> Result<(), Trouble> {
+        let Some((first, behind)) = item.word() else {
             return Ok(());
         };
-        let Some(code) = codes::read_code(lines::part(item, first)) else {
-            return Err(refused(7, place));
-        };
-        let rest = words::trimmed(
-            item,
-            Span {
-                from: first.to,
-                to: item.len(),
-            },
-            false,
-        );
-        let sent = Sent {
-            station: self.message.name,
-            source: second_listing::padded(b""),
-            code,
-            state: self.message.state,
-            step: 0,
-            series: 0,
-            place,
-        };
-        self.log(sent, lines::part(item, rest))
+        let code = read_code(item, first.bytes)?;
+        let value = behind.trimmed(b" ");
+        self.log
+            .take(message, Sent::of(message, code, item.place), value.bytes)
     }
 
     // The code of a series, or one of its steps.
-    fn take_step(&mut self, item: &[u8], place: usize) -> Result<(), Trouble> {
-        let Some(code) = self.message.code else {
-            if item.is_empty() {
-                return Ok(());
+    fn take_step(&mut self, message: &mut Message, item: Part<'_>) -> Result<(), Trouble> {
+        let Some(code) = message.code else {
+            if !item.bytes.is_empty() {
+                message.code = Some(read_code(item, item.bytes)?);
             }
-            let Some(code) = codes::read_code(item) else {
-                return Err(refused(7, place));
-            };
-            self.message.code = Some(code);
             return Ok(());
         };
-        let step = self.message.steps;
-        self.message.steps = step.saturating_add(1);
-        if item.is_empty() {
+        let step = message.steps;
+        message.steps = step.saturating_add(1);
+        if item.bytes.is_empty() {
             return Ok(());
         }
-        if self.message.state.interval.is_none() {
-            return Err(refused(8, place));
+        if message.state.interval.is_none() {
+            return Err(Trouble::Found(Refusal::NoCode.at(item.place)));
         }
         let sent = Sent {
-            station: self.message.name,
-            source: second_listing::padded(b""),
-            code,
-            state: self.message.state,
             step,
-            series: if self.message.begun { 2 } else { 1 },
-            place,
+            ..Sent::of(message, code, item.place)
         };
-        self.log(sent, item)?;
-        self.message.begun = true;
+        self.log.take(message, sent, item.bytes)?;
+        message.series = Series::Later;
         Ok(())
     }
 
-    // The place of the next column at or behind a place of the header.
-    fn next_column(&self, from: usize) -> Option<(usize, Code)> {
-        for (i, head) in self.heads.iter().enumerate() {
-            if let Head::Column(code) = *head {
-                if i >= from {
-                    return Some((i, code));
-                }
-            }
-        }
-        None
-    }
-
-    // The state after the header's D items between two places of the header.
-    fn after_heads(&self, state: State, from: usize, to: usize) -> State {
-        let mut now = state;
-        for (i, head) in self.heads.iter().enumerate() {
-            if let Head::Sets(setting) = *head {
-                if from <= i && i < to {
-                    now = settings::applied(now, setting);
-                }
-            }
-        }
-        now
-    }
-
-    // A value, or nothing, for a column of the header.
-    fn take_cell(
-        &mut self,
-        station: Name,
-        column: Option<(usize, Code)>,
-        state: State,
-        item: &[u8],
-        place: usize,
-    ) -> Result<(), Trouble> {
-        if item.is_empty() {
-            return Ok(());
-        }
-        let Some((_, code)) = column else {
-            return Err(refused(8, place));
-        };
-        let source = self.message.name;
-        self.log(
-            Sent {
-                station,
-                source,
-                code,
-                state,
-                step: 0,
-                series: 0,
-                place,
-            },
-            item,
-        )
-    }
-
-    // The items of a body line, of which the place of the first byte is given.
+    // The items of a body line.
     pub fn take_body(
         &mut self,
+        message: &Message,
         station: Name,
-        text: &[u8],
-        items: &[Span],
-        start: usize,
+        items: &[Part<'_>],
     ) -> Result<(), Trouble> {
-        let mut state = self.message.opening;
-        let mut next: usize = 0;
-        for span in items {
-            let item = lines::part(text, *span);
-            let place = start.saturating_add(span.from);
-            let column = self.next_column(next);
-            if let Some((at, _)) = column {
-                state = self.after_heads(state, next, at);
-                next = at;
+        let mut state = message.opening;
+        let mut heads = self.heads.as_slice();
+        for item in items {
+            let column = to_column(heads);
+            if let Some((before, _, _)) = column {
+                state = settled(state, before);
+                heads = heads.get(before.len()..).unwrap_or(&[]);
             }
-            if item.first().copied() == Some(b'D') {
-                state = settings::applied(state, self.setting(item, place)?);
+            if item.bytes.starts_with(b"D") {
+                state = settings::applied(state, setting(self.today, message, *item)?);
                 continue;
             }
-            if column.is_some() {
-                next = next.saturating_add(1);
+            if let Some((_, _, behind)) = column {
+                heads = behind;
             }
-            self.take_cell(station, column, state, item, place)?;
+            if item.bytes.is_empty() {
+                continue;
+            }
+            let (_, code, _) = column.ok_or(Refusal::NoCode.at(item.place))?;
+            let sent = Sent {
+                station,
+                source: message.name,
+                state,
+                ..Sent::of(message, code, item.place)
+            };
+            self.log.take(message, sent, item.bytes)?;
         }
         Ok(())
     }

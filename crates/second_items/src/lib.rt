@@ -3,3 +3,4 @@
 
 pub mod items;
 pub mod reader;
+pub mod refusals;

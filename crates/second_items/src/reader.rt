@@ -1,37 +1,21 @@
-// What the second decoder holds while it reads, and the refusals.
-use second_listing::Name;
+// What the second decoder holds while it reads.
+use crate::refusals::Fault;
+use second_listing::{Name, Series};
 use second_state::settings::Setting;
 use second_state::state::State;
+use second_text::lines::Letters;
 use second_time::days::Day;
 use second_time::zones::Zone;
 use second_value::codes::Code;
-use std::alloc::{AllocError, AllocFailed, Global};
+use std::alloc::Global;
 
-// Why a line or an item was not taken: no memory, or a refusal with its place.
-#[derive(Clone, Copy)]
-pub enum Trouble {
-    Memory,
-    Fault { number: u8, place: usize },
-}
-
-impl From<AllocError> for Trouble {
-    fn from(_e: AllocError) -> Trouble {
-        Trouble::Memory
-    }
-}
-
-impl<T: Drop> From<AllocFailed<T>> for Trouble {
-    fn from(_e: AllocFailed<T>) -> Trouble {
-        Trouble::Memory
-    }
-}
-
+// Outside any message, among the items of one, among the stations of a table, or in a message that
+// had a fault.
 #[derive(Clone, Copy)]
 pub enum Mode {
     Outside,
-    InSeries,
-    InHeader,
-    InBody,
+    InItems(Message),
+    InBody(Message),
     Skipping,
 }
 
@@ -42,11 +26,10 @@ pub enum Head {
     Sets(Setting),
 }
 
-// The message that is open, or was last.
+// A message that is open.
 #[derive(Clone, Copy)]
 pub struct Message {
-    pub form: u8,
-    pub revised: bool,
+    pub letters: Letters,
     // The station, or the source of a table.
     pub name: Name,
     pub zone: Zone,
@@ -56,19 +39,25 @@ pub struct Message {
     pub number: u16,
     // The code of a series.
     pub code: Option<Code>,
-    // The steps of a series so far, and whether one of them gave a record.
+    // The steps of a series so far, and what its next record is.
     pub steps: u64,
-    pub begun: bool,
+    pub series: Series,
+}
+
+// The records so far, as listing lines, and how many there is room for.
+#[derive(Drop)]
+pub struct Log {
+    pub heap: Global,
+    pub room: usize,
+    pub records: Vec<String>,
 }
 
 #[derive(Drop)]
 pub struct Reader {
-    pub heap: Global,
     pub today: Day,
-    pub room: usize,
     pub mode: Mode,
-    pub message: Message,
+    // The header of the table that is open.
     pub heads: Vec<Head>,
-    pub records: Vec<String>,
-    pub faults: Vec<(u8, usize)>,
+    pub log: Log,
+    pub faults: Vec<Fault>,
 }

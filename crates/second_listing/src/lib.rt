@@ -3,4 +3,4 @@
 
 mod listing;
 
-pub use listing::{Entry, Name, listed, padded};
+pub use listing::{Entry, Name, Series, listed, padded};

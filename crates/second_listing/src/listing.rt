@@ -1,23 +1,39 @@
 // The listing line of a record.
 use second_time::moves::Reading;
 use second_value::codes::Code;
-use second_value::values::Value;
+use second_value::values::{Amount, Value};
 use std::alloc::{AllocError, Global};
+use std::fmt;
+use std::fmt::Write;
 
 // A station or a source, with blanks behind it.
-#[derive(Clone, Copy)]
+#[derive(Clone, Copy, Debug, PartialEq, Eq)]
 pub struct Name {
     pub signs: [u8; 8],
 }
 
 pub fn padded(word: &[u8]) -> Name {
     let mut signs = [b' '; 8];
-    for (i, b) in word.iter().enumerate() {
-        if i < 8 {
-            signs[i] = *b;
-        }
-    }
+    let kept = word.len().min(8);
+    signs[..kept].copy_from_slice(&word[..kept]);
     Name { signs }
+}
+
+impl fmt::Display for Name {
+    fn fmt<W: fmt::Write>(&self, f: &mut fmt::Formatter<W>) -> fmt::Result {
+        for b in self.signs {
+            f.write_char(char::from(b))?;
+        }
+        Ok(())
+    }
+}
+
+// Whether a record is of no series, the first of one, or a later one.
+#[derive(Clone, Copy, Debug, PartialEq, Eq)]
+pub enum Series {
+    Apart = 0,
+    First = 1,
+    Later = 2,
 }
 
 #[derive(Clone, Copy)]
@@ -29,15 +45,8 @@ pub struct Entry {
     pub duration: u16,
     pub value: Value,
     pub revised: bool,
-    pub series: u8,
+    pub series: Series,
     pub source: Name,
-}
-
-fn put_name(line: &mut String, name: Name) -> Result<(), AllocError> {
-    for b in name.signs.iter() {
-        line.push(char::from(*b))?;
-    }
-    Ok(())
 }
 
 // A time as ccyymmddhhnn.
@@ -50,57 +59,37 @@ fn minutes(heap: Global, at: Reading) -> Result<String, AllocError> {
     format!(in heap; "{year:04}{month:02}{day:02}{hour:02}{minute:02}")
 }
 
-fn put_code(line: &mut String, code: Code) -> Result<(), AllocError> {
-    let signs = [
-        code.element.first,
-        code.element.second,
-        code.duration,
-        code.kind,
-        code.source,
-        code.extremum,
-        code.probability,
-    ];
-    for b in signs.iter() {
-        line.push(char::from(*b))?;
-    }
-    Ok(())
-}
-
-// An amount in ten-thousandths, or that it is missing.
-fn amount(heap: Global, value: Value) -> Result<String, AllocError> {
-    let Some(n) = value.amount else {
-        return String::from_str(heap, "-9999.0000");
+// An amount with four decimals.
+fn decimal(heap: Global, amount: Amount) -> Result<String, AllocError> {
+    let n = match amount {
+        Amount::Missing => return String::from_str(heap, "-9999.0000"),
+        Amount::Trace => 10,
+        Amount::Number(n) => n,
     };
+    let sign = if n < 0 { "-" } else { "" };
     let size = n.unsigned_abs();
     let whole = size / 10_000;
     let decimals = size % 10_000;
-    if n < 0 {
-        return format!(in heap; "-{whole}.{decimals:04}");
-    }
-    format!(in heap; "{whole}.{decimals:04}")
+    format!(in heap; "{sign}{whole}.{decimals:04}")
 }
 
 // The 79 columns before the line feed.
 pub fn listed(heap: Global, e: Entry) -> Result<String, AllocError> {
-    let mut line = String::new(heap);
-    put_name(&mut line, e.station)?;
-    let to_minute = minutes(heap, e.observed)?;
+    let station = e.station;
+    let observed = minutes(heap, e.observed)?;
     let second = e.observed.second % 60;
-    let observed = format!(in heap; " {to_minute}{second:02} ")?;
-    line.push_str(observed.as_str())?;
-    match e.created {
-        Some(at) => line.push_str(minutes(heap, at)?.as_str())?,
-        None => line.push_str("            ")?,
-    }
-    line.push(' ')?;
-    put_code(&mut line, e.code)?;
+    let created = match e.created {
+        Some(at) => minutes(heap, at)?,
+        None => String::new(heap),
+    };
+    let code = e.code;
     let duration = e.duration;
-    let value = amount(heap, e.value)?;
+    let amount = decimal(heap, e.value.amount)?;
     let qualifier = char::from(e.value.qualifier);
-    let revision = if e.revised { 1 } else { 0 };
-    let series = e.series;
-    let rest = format!(in heap; " {duration:04} {value:>14} {qualifier} {revision} {series} ")?;
-    line.push_str(rest.as_str())?;
-    put_name(&mut line, e.source)?;
-    Ok(line)
+    let revision = u8::from(e.revised);
+    let series = e.series as u8;
+    let source = e.source;
+    format!(in heap;
+        "{station} {observed}{second:02} {created:12} {code} {duration:04} {amount:>14} {qualifier} {revision} {series} {source}"
+    )
 }

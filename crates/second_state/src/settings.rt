@@ -1,12 +1,52 @@
 // D items, which change the state of a message.
-use crate::state::State;
+use crate::state::{State, Units};
 use second_time::days::Day;
-use second_time::moves::{Move, Reading};
+use second_time::moves::{Move, Reading, Unit};
 use second_time::zones::Zone;
-use second_time::{dates, moves, zones};
+use second_time::{dates, zones};
+
+// The groups of two digits of a time item, each of which may begin it.
+#[derive(Clone, Copy, Debug, PartialEq, Eq)]
+enum Group {
+    Century,
+    Year,
+    Month,
+    Day,
+    Hour,
+    Minute,
+    Second,
+}
+
+impl Group {
+    // The first group of a time item, by its kind letter.
+    fn named(kind: u8) -> Option<Group> {
+        match kind {
+            b'T' => Some(Group::Century),
+            b'Y' => Some(Group::Year),
+            b'M' => Some(Group::Month),
+            b'D' => Some(Group::Day),
+            b'H' => Some(Group::Hour),
+            b'N' => Some(Group::Minute),
+            b'S' => Some(Group::Second),
+            _ => None,
+        }
+    }
+
+    fn next(self) -> Option<Group> {
+        match self {
+            Group::Century => Some(Group::Year),
+            Group::Year => Some(Group::Month),
+            Group::Month => Some(Group::Day),
+            Group::Day => Some(Group::Hour),
+            Group::Hour => Some(Group::Minute),
+            Group::Minute => Some(Group::Second),
+            Group::Second => None,
+        }
+    }
+}
 
 // The time groups that an item gives.
-#[derive(Clone, Copy)]
+#[derive(Clone, Copy, Default)]
 pub struct Groups {
     pub century: Option<u8>,
     pub year: Option<u8>,
@@ -17,112 +57,75 @@ pub struct Groups {
     pub second: Option<u8>,
 }
 
-const NO_GROUPS: Groups = Groups {
-    century: None,
-    year: None,
-    month: None,
-    day: None,
-    hour: None,
-    minute: None,
-    second: None,
-};
-
 #[derive(Clone, Copy)]
 pub enum Setting {
     Time(Groups),
     Relative(Move),
     Interval(Move),
     Created(Reading),
-    Units { si: bool },
+    Units(Units),
     Variable(Option<u16>),
 }
 
-// The first group of a time item, by its kind letter.
-fn first_group(kind: u8) -> Option<usize> {
-    match kind {
-        b'T' => Some(0),
-        b'Y' => Some(1),
-        b'M' => Some(2),
-        b'D' => Some(3),
-        b'H' => Some(4),
-        b'N' => Some(5),
-        b'S' => Some(6),
-        _ => None,
+impl Groups {
+    // The groups with one more, if it is within its bounds.
+    fn with(self, group: Group, n: u8) -> Option<Groups> {
+        let mut more = self;
+        match (group, n) {
+            (Group::Century, _) => more.century = Some(n),
+            (Group::Year, _) => more.year = Some(n),
+            (Group::Month, 1..=12) => more.month = Some(n),
+            (Group::Day, 1..=31) => more.day = Some(n),
+            (Group::Hour, 0..=24) => more.hour = Some(n),
+            (Group::Minute, 0..=59) => more.minute = Some(n),
+            (Group::Second, 0..=59) => more.second = Some(n),
+            _ => return None,
+        }
+        Some(more)
     }
 }
 
-// The groups with one more, if it is within its bounds.
-fn with_group(groups: Groups, place: usize, n: u8) -> Option<Groups> {
-    let mut more = groups;
-    if place == 0 {
-        more.century = Some(n);
-    } else if place == 1 {
-        more.year = Some(n);
-    } else if place == 2 && 1 <= n && n <= 12 {
-        more.month = Some(n);
-    } else if place == 3 && 1 <= n && n <= 31 {
-        more.day = Some(n);
-    } else if place == 4 && n <= 24 {
-        more.hour = Some(n);
-    } else if place == 5 && n <= 59 {
-        more.minute = Some(n);
-    } else if place == 6 && n <= 59 {
-        more.second = Some(n);
-    } else {
+fn read_groups(rest: &[u8], first: Group, today: Day) -> Option<Groups> {
+    if rest.is_empty() {
         return None;
     }
-    Some(more)
-}
-
-fn read_groups(rest: &[u8], first: usize, today: Day) -> Option<Groups> {
-    let count = rest.len() / 2;
-    if rest.len() % 2 != 0 || count == 0 {
-        return None;
+    let mut groups = Groups::default();
+    let mut group = Some(first);
+    for digits in rest.chunks(2) {
+        let given = group?;
+        groups = groups.with(given, dates::two_digits(digits, 0)?)?;
+        group = given.next();
     }
-    let mut groups = NO_GROUPS;
-    let mut place = first;
-    for k in 0..count {
-        groups = with_group(groups, place, dates::two_digits(rest, 2 * k)?)?;
-        place = place.saturating_add(1);
-    }
-    if place == 5 {
+    if group == Some(Group::Minute) {
         groups.minute = Some(0);
     }
-    if place == 5 || place == 6 {
+    if group == Some(Group::Minute) || group == Some(Group::Second) {
         groups.second = Some(0);
     }
-    if first == 1 {
+    if first == Group::Year {
         groups.century = Some(dates::century(today, groups.year?));
     }
     Some(groups)
 }
 
-fn is_digit(b: u8) -> bool {
-    b'0' <= b && b <= b'9'
-}
-
 // A unit, perhaps a sign, and one or two digits.
 fn read_move(rest: &[u8]) -> Option<Move> {
-    let unit = rest.first().copied()?;
-    if !moves::is_unit(unit) {
-        return None;
-    }
-    let sign = rest.get(1).copied()?;
-    let at: usize = if sign == b'+' || sign == b'-' { 2 } else { 1 };
-    let first = rest.get(at).copied()?;
-    if !is_digit(first) || rest.len() > at + 2 {
-        return None;
-    }
-    let ones = u64::from(first.saturating_sub(b'0'));
-    let count = if rest.len() == at + 1 {
-        ones
-    } else {
-        u64::from(dates::two_digits(rest, at)?)
+    let (letter, signed) = rest.split_first()?;
+    let unit = Unit::named(*letter)?;
+    let (back, digits) = match signed {
+        [b'-', digits @ ..] => (true, digits),
+        [b'+', digits @ ..] => (false, digits),
+        _ => (false, signed),
     };
+    let size = match digits {
+        [ones @ b'0'..=b'9'] => *ones - b'0',
+        [_, _] => dates::two_digits(digits, 0)?,
+        _ => return None,
+    };
+    let count = i64::from(size);
     Some(Move {
         unit,
-        back: sign == b'-',
-        count,
+        count: if back { -count } else { count },
     })
 }
 
@@ -133,24 +136,25 @@ fn read_creation(rest: &[u8], today: Day, zone: Zone) -> Option<Reading> {
         12 => 8,
         _ => return None,
     };
-    let date = dates::read_date(today, rest.get(0..dated)?)?;
-    let hour = dates::two_digits(rest, dated)?;
-    let minute = if rest.len() == 6 {
+    let (date, time) = rest.split_at_checked(dated)?;
+    let date = dates::read_date(today, date)?;
+    let hour = dates::two_digits(time, 0)?;
+    let minute = if time.len() == 2 {
         0
     } else {
-        dates::two_digits(rest, dated + 2)?
+        dates::two_digits(time, 2)?
     };
     let local = zones::reading(date, hour, minute, 0)?;
     zones::in_utc(local, zones::hours_behind(zone, local))
 }
 
-// The number of a variable duration, or none where it is cleared.
-fn read_variable(rest: &[u8]) -> Option<Option<u16>> {
-    let unit = rest.first().copied()?;
-    if rest.len() == 1 && unit == b'Z' {
-        return Some(None);
+// The number of a variable duration, which Z clears.
+fn read_variable(rest: &[u8]) -> Option<Setting> {
+    if rest == b"Z".as_slice() {
+        return Some(Setting::Variable(None));
     }
-    let base: u16 = match unit {
+    let (unit, digits) = rest.split_first()?;
+    let base: u16 = match *unit {
         b'N' => 0,
         b'H' => 1000,
         b'D' => 2000,
@@ -159,20 +163,18 @@ fn read_variable(rest: &[u8]) -> Option<Option<u16>> {
         b'E' => 6000,
         _ => return None,
     };
-    if rest.len() != 3 {
+    if digits.len() != 2 {
         return None;
     }
-    Some(Some(base + u16::from(dates::two_digits(rest, 1)?)))
+    let number = base + u16::from(dates::two_digits(digits, 0)?);
+    Some(Setting::Variable(Some(number)))
 }
 
 fn read_units(rest: &[u8]) -> Option<Setting> {
-    if rest == b"E".as_slice() {
-        return Some(Setting::Units { si: false });
-    }
-    if rest == b"S".as_slice() {
-        Some(Setting::Units { si: true })
-    } else {
-        None
+    match rest {
+        b"E" => Some(Setting::Units(Units::English)),
+        b"S" => Some(Setting::Units(Units::Si)),
+        _ => None,
     }
 }
 
@@ -180,40 +182,48 @@ fn read_units(rest: &[u8]) -> Option<Setting> {
 pub fn read_setting(item: &[u8], today: Day, zone: Zone) -> Option<Setting> {
     let kind = item.get(1).copied()?;
     let rest = item.get(2..)?;
-    if let Some(first) = first_group(kind) {
-        return Some(Setting::Time(read_groups(rest, first, today)?));
+    if let Some(first) = Group::named(kind) {
+        return read_groups(rest, first, today).map(Setting::Time);
     }
     match kind {
-        b'R' => Some(Setting::Relative(read_move(rest)?)),
-        b'I' => Some(Setting::Interval(read_move(rest)?)),
-        b'C' => Some(Setting::Created(read_creation(rest, today, zone)?)),
+        b'R' => read_move(rest).map(Setting::Relative),
+        b'I' => read_move(rest).map(Setting::Interval),
+        b'C' => read_creation(rest, today, zone).map(Setting::Created),
         b'U' => read_units(rest),
-        b'V' => Some(Setting::Variable(read_variable(rest)?)),
+        b'V' => read_variable(rest),
         _ => None,
     }
 }
 
 fn timed(state: State, groups: Groups) -> State {
-    let mut next = state;
-    next.century = groups.century.unwrap_or(state.century);
-    next.year = groups.year.unwrap_or(state.year);
-    next.month = groups.month.unwrap_or(state.month);
-    next.day = groups.day.unwrap_or(state.day);
-    next.hour = groups.hour.unwrap_or(state.hour);
-    next.minute = groups.minute.unwrap_or(state.minute);
-    next.second = groups.second.unwrap_or(state.second);
-    next
+    State {
+        century: groups.century.unwrap_or(state.century),
+        year: groups.year.unwrap_or(state.year),
+        month: groups.month.unwrap_or(state.month),
+        day: groups.day.unwrap_or(state.day),
+        hour: groups.hour.unwrap_or(state.hour),
+        minute: groups.minute.unwrap_or(state.minute),
+        second: groups.second.unwrap_or(state.second),
+        ..state
+    }
 }
 
 pub fn applied(state: State, setting: Setting) -> State {
-    let mut next = state;
     match setting {
-        Setting::Time(groups) => return timed(state, groups),
-        Setting::Relative(by) => next.relative = Some(by),
-        Setting::Interval(by) => next.interval = Some(by),
-        Setting::Created(at) => next.created = Some(at),
-        Setting::Units { si } => next.si = si,
-        Setting::Variable(number) => next.variable = number,
+        Setting::Time(groups) => timed(state, groups),
+        Setting::Relative(by) => State {
+            relative: Some(by),
+            ..state
+        },
+        Setting::Interval(by) => State {
+            interval: Some(by),
+            ..state
+        },
+        Setting::Created(at) => State {
+            created: Some(at),
+            ..state
+        },
+        Setting::Units(units) => State { units, ..state },
+        Setting::Variable(variable) => State { variable, ..state },
     }
-    next
 }

@@ -4,6 +4,13 @@ use second_time::moves::{Move, Reading};
 use second_time::zones::Zone;
 use second_time::{dates, moves, zones};
 
+// The units in which values are sent.
+#[derive(Clone, Copy, Debug, PartialEq, Eq)]
+pub enum Units {
+    English,
+    Si,
+}
+
 #[derive(Clone, Copy)]
 pub struct State {
     pub century: u8,
@@ -14,7 +21,7 @@ pub struct State {
     pub minute: u8,
     pub second: u8,
     pub created: Option<Reading>,
-    pub si: bool,
+    pub units: Units,
     pub variable: Option<u16>,
     pub relative: Option<Move>,
     pub interval: Option<Move>,
@@ -31,7 +38,7 @@ pub fn opened(date: Day, hour: u8) -> State {
         minute: 0,
         second: 0,
         created: None,
-        si: false,
+        units: Units::English,
         variable: None,
         relative: None,
         interval: None,
@@ -39,20 +46,11 @@ pub fn opened(date: Day, hour: u8) -> State {
 }
 
 fn perhaps_moved(from: Reading, by: Option<Move>, times: u64) -> Option<Reading> {
-    match by {
-        None => Some(from),
-        Some(by) => {
-            let count = by.count.checked_mul(times)?;
-            moves::moved(
-                from,
-                Move {
-                    unit: by.unit,
-                    back: by.back,
-                    count,
-                },
-            )
-        }
-    }
+    let Some(by) = by else {
+        return Some(from);
+    };
+    let count = by.count.checked_mul(i64::try_from(times).ok()?)?;
+    moves::moved(from, Move { count, ..by })
 }
 
 // The observation time in UTC of a step, which is 0 but in series.
@@ -61,8 +59,10 @@ pub fn observed(state: State, zone: Zone, step: u64) -> Option<Reading> {
     let local = zones::reading(date, state.hour, state.minute, state.second)?;
     let hours = zones::hours_behind(zone, local);
     let shifted = perhaps_moved(local, state.relative, 1)?;
-    if step == 0 {
-        return zones::in_utc(shifted, hours);
-    }
-    zones::in_utc(perhaps_moved(shifted, state.interval, step)?, hours)
+    let reached = if step == 0 {
+        shifted
+    } else {
+        perhaps_moved(shifted, state.interval, step)?
+    };
+    zones::in_utc(reached, hours)
 }

@@ -1,67 +1,31 @@
 // Items between slashes.
-use crate::lines::Span;
-use crate::words;
+use crate::parts::Part;
 use std::alloc::{AllocError, Global};
 
-// The stretch cut at its slashes, each piece trimmed.
-fn cut(heap: Global, text: &[u8], within: Span) -> Result<Vec<Span>, AllocError> {
+// The part cut at its slashes, each piece trimmed.
+fn cut(heap: Global, within: Part<'_>) -> Result<Vec<Part<'_>>, AllocError> {
     let mut found = Vec::new(heap);
-    let mut from = within.from;
-    for (i, b) in text.iter().enumerate() {
-        if within.from <= i && i < within.to && *b == b'/' {
-            found.push(words::trimmed(text, Span { from, to: i }, false))?;
-            from = i.saturating_add(1);
-        }
+    // A piece of `split` does not know its place.
+    let mut place = within.place;
+    for bytes in within.bytes.split(|b| *b == b'/') {
+        found.push(Part::new(bytes, place).trimmed(b" "))?;
+        place = place.saturating_add(bytes.len()).saturating_add(1);
     }
-    found.push(words::trimmed(
-        text,
-        Span {
-            from,
-            to: within.to,
-        },
-        false,
-    ))?;
     Ok(found)
 }
 
 // The items of an opening or a continuation: slashes at both ends fall together with the line breaks.
-pub fn message_items(heap: Global, text: &[u8], from: usize) -> Result<Vec<Span>, AllocError> {
-    cut(
-        heap,
-        text,
-        words::trimmed(
-            text,
-            Span {
-                from,
-                to: text.len(),
-            },
-            true,
-        ),
-    )
+pub fn message_items(heap: Global, text: Part<'_>) -> Result<Vec<Part<'_>>, AllocError> {
+    cut(heap, text.trimmed(b" /"))
 }
 
 // The items of a body line: one slash at the end is dropped.
-pub fn body_items(heap: Global, text: &[u8], from: usize) -> Result<Vec<Span>, AllocError> {
-    let mut rest = words::trimmed(
-        text,
-        Span {
-            from,
-            to: text.len(),
-        },
-        false,
-    );
-    if rest.from < rest.to && text.get(rest.to - 1).copied() == Some(b'/') {
-        rest = Span {
-            from: rest.from,
-            to: rest.to - 1,
-        };
-        if words::trimmed(text, rest, false).from >= words::trimmed(text, rest, false).to {
-            return Ok(Vec::new(heap));
-        }
-        return cut(heap, text, rest);
-    }
-    if rest.from >= rest.to {
+pub fn body_items(heap: Global, text: Part<'_>) -> Result<Vec<Part<'_>>, AllocError> {
+    let whole = text.trimmed(b" ");
+    let unslashed = whole.bytes.strip_suffix(b"/").unwrap_or(whole.bytes);
+    let rest = Part::new(unslashed, whole.place);
+    if rest.trimmed(b" ").bytes.is_empty() {
         return Ok(Vec::new(heap));
     }
-    cut(heap, text, rest)
+    cut(heap, rest)
 }

@@ -1,23 +1,37 @@
 // Lines of a text and what kind of line each is.
+use crate::parts::Part;
 use std::alloc::{AllocError, Global};
 
-// A stretch of bytes: from a place up to, not including, another.
-#[derive(Clone, Copy)]
-pub struct Span {
-    pub from: usize,
-    pub to: usize,
+// A message of one station, of a table of stations, or of a series.
+#[derive(Clone, Copy, Debug, PartialEq, Eq)]
+pub enum Form {
+    Single,
+    Table,
+    Series,
 }
 
-pub fn part(text: &[u8], span: Span) -> &[u8] {
-    match text.get(span.from..span.to) {
-        Some(bytes) => bytes,
-        None => &[],
+impl Form {
+    // The form that a letter names.
+    pub fn named(letter: u8) -> Option<Form> {
+        match letter {
+            b'A' => Some(Form::Single),
+            b'B' => Some(Form::Table),
+            b'E' => Some(Form::Series),
+            _ => None,
+        }
     }
 }
 
-#[derive(Clone, Copy)]
+// The letters that the lines of a message begin with: its form, and R where it revises.
+#[derive(Clone, Copy, Debug, PartialEq, Eq)]
+pub struct Letters {
+    pub form: Form,
+    pub revised: bool,
+}
+
+#[derive(Clone, Copy, Debug, PartialEq, Eq)]
 pub enum Kind {
-    Opening { form: u8, revised: bool },
+    Opening(Letters),
     Continuation,
     End,
     Dotted,
@@ -25,61 +39,57 @@ pub enum Kind {
 }
 
 // The lines, without line feeds and without the carriage return before one.
-pub fn lines(heap: Global, text: &[u8]) -> Result<Vec<Span>, AllocError> {
+pub fn lines(heap: Global, text: &[u8]) -> Result<Vec<Part<'_>>, AllocError> {
     let mut found = Vec::new(heap);
-    let mut from: usize = 0;
-    let mut before: u8 = 0;
-    for (i, b) in text.iter().enumerate() {
-        if *b == 10 {
-            let to = if before == 13 { i.saturating_sub(1) } else { i };
-            found.push(Span { from, to })?;
-            from = i.saturating_add(1);
-        }
-        before = *b;
-    }
-    if from < text.len() {
-        found.push(Span {
-            from,
-            to: text.len(),
-        })?;
+    // A piece of `split_inclusive` does not know its place.
+    let mut place: usize = 0;
+    for line in text.split_inclusive(|b| *b == b'\n') {
+        let bytes = match line {
+            [bytes @ .., b'\r', b'\n'] | [bytes @ .., b'\n'] => bytes,
+            _ => line,
+        };
+        found.push(Part::new(bytes, place))?;
+        place = place.saturating_add(line.len());
     }
     Ok(found)
 }
 
-pub fn kind_of(line: &[u8]) -> Kind {
-    if line.first().copied() != Some(b'.') {
+impl Letters {
+    // What stands behind these letters in a line that begins with them.
+    pub fn behind(self, line: Part<'_>) -> Part<'_> {
+        let (_, behind) = line.split(if self.revised { 3 } else { 2 });
+        behind
+    }
+}
+
+// The letters of a line and what stands behind them.
+pub(crate) fn lettered(line: Part<'_>) -> Option<(Letters, Part<'_>)> {
+    let form = Form::named(line.bytes.get(1).copied()?)?;
+    let revised = line.bytes.get(2).copied() == Some(b'R');
+    let letters = Letters { form, revised };
+    Some((letters, letters.behind(line)))
+}
+
+pub fn kind_of(line: Part<'_>) -> Kind {
+    if !line.bytes.starts_with(b".") {
         return Kind::Plain;
     }
-    if line.starts_with(b".END") {
+    if line.bytes.starts_with(b".END") {
         return Kind::End;
     }
-    let Some(form) = line.get(1).copied() else {
+    let Some((letters, behind)) = lettered(line) else {
         return Kind::Dotted;
     };
-    if form != b'A' && form != b'B' && form != b'E' {
-        return Kind::Dotted;
-    }
-    let revised = line.get(2).copied() == Some(b'R');
-    let behind = if revised {
-        line.get(3).copied()
-    } else {
-        line.get(2).copied()
-    };
-    match behind {
-        None | Some(b' ') => Kind::Opening { form, revised },
-        Some(b'0'..=b'9') => Kind::Continuation,
+    match behind.bytes {
+        [] | [b' ', ..] => Kind::Opening(letters),
+        [b'0'..=b'9', ..] => Kind::Continuation,
         _ => Kind::Dotted,
     }
 }
 
 // Whether a line is too long or has a byte that does not print.
 pub fn is_unfit(line: &[u8]) -> bool {
-    for b in line {
-        if *b < 32 || *b > 126 {
-            return true;
-        }
-    }
-    line.len() > 1000
+    line.len() > 1000 || line.iter().any(|b| !(b' '..=b'~').contains(b))
 }
 
 // The line with its comments turned to blanks.
@@ -87,14 +97,9 @@ pub fn uncommented(heap: Global, line: &[u8]) -> Result<Vec<u8>, AllocError> {
     let mut out = Vec::new(heap);
     let mut inside = false;
     for b in line {
-        if *b == b':' {
-            inside = !inside;
-            out.push(b' ')?;
-        } else if inside {
-            out.push(b' ')?;
-        } else {
-            out.push(*b)?;
-        }
+        let mark = *b == b':';
+        out.push(if mark || inside { b' ' } else { *b })?;
+        inside ^= mark;
     }
     Ok(out)
 }

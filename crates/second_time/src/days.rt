@@ -10,9 +10,6 @@ pub struct Day {
 // The days of the years 0 to 9999.
 const ALL_DAYS: u64 = 3_652_425;
 
-// The days of 400 years.
-const CYCLE: u64 = 146_097;
-
 pub fn is_leap(year: u16) -> bool {
     year % 4 == 0 && (year % 100 != 0 || year % 400 == 0)
 }
@@ -27,62 +24,59 @@ pub fn month_length(year: u16, month: u8) -> u8 {
 
 // Whether a date stands for a day of the years 1900 to 2099.
 pub fn is_counted(d: Day) -> bool {
-    let dated = 1 <= d.month
-        && d.month <= 12
-        && 1 <= d.day
-        && d.day <= month_length(d.year, d.month);
-    1900 <= d.year && d.year <= 2099 && dated
+    (1900..=2099).contains(&d.year)
+        && (1..=12).contains(&d.month)
+        && (1..=month_length(d.year, d.month)).contains(&d.day)
 }
 
 fn days_before_year(year: u16) -> u64 {
-    let y = year as u64;
+    let y = u64::from(year);
     365 * y + (y + 3) / 4 + (y + 399) / 400 - (y + 99) / 100
 }
 
-pub fn number(d: Day) -> u64 {
-    let mut sum = days_before_year(d.year);
-    for month in 1..d.month {
-        sum = sum.saturating_add(month_length(d.year, month) as u64);
-    }
-    sum.saturating_add(d.day as u64).saturating_sub(1)
+// The days of a year before one of its months.
+fn days_before_month(year: u16, month: u8) -> u64 {
+    (1..month).fold(0u64, |sum, earlier| {
+        sum.saturating_add(u64::from(month_length(year, earlier)))
+    })
 }
 
-// The day with a number, or none past the year 9999.
+pub fn number(d: Day) -> u64 {
+    days_before_year(d.year)
+        .saturating_add(days_before_month(d.year, d.month))
+        .saturating_add(u64::from(d.day))
+        .saturating_sub(1)
+}
+
+// The day with a number, or none past the year 9999. A year has 365 or 366 days.
 pub fn numbered(number: u64) -> Option<Day> {
     if number >= ALL_DAYS {
         return None;
     }
-    let cycle = (number / CYCLE * 400) as u16;
-    let mut rest = number % CYCLE;
-    for k in 0..400u16 {
-        let length: u64 = if is_leap(k) { 366 } else { 365 };
-        if rest < length {
-            return within_year(cycle.saturating_add(k), rest);
-        }
-        rest -= length;
-    }
-    None
+    let earliest = (number / 366) as u16;
+    let latest = (number / 365) as u16;
+    (earliest..=latest).rev().find_map(|year| within_year(
+        year,
+        number.checked_sub(days_before_year(year))?,
+    ))
 }
 
 fn within_year(year: u16, before: u64) -> Option<Day> {
-    let mut rest = before;
-    for month in 1..13u8 {
-        let length = month_length(year, month) as u64;
-        if rest < length {
-            let day = u8::try_from(rest.saturating_add(1)).ok()?;
-            return Some(Day { year, month, day });
-        }
-        rest -= length;
-    }
-    None
+    (1..=12u8).rev().find_map(|month| {
+        let earlier = before.checked_sub(days_before_month(year, month))?;
+        let day = u8::try_from(earlier).ok()?.checked_add(1)?;
+        Some(Day { year, month, day })
+    })
 }
 
 // The first Sunday of a month, as its day.
 pub fn first_sunday(year: u16, month: u8) -> u8 {
-    for day in 1..8u8 {
-        if number(Day { year, month, day }) % 7 == 1 {
-            return day;
-        }
-    }
-    7
+    (1..8u8)
+        .find(|day| number(Day {
+            year,
+            month,
+            day: *day,
+        }) % 7
+            == 1)
+        .unwrap_or(7)
 }

@@ -10,72 +10,84 @@ pub struct Reading {
     pub second: u64,
 }
 
-// A signed count of a unit: one of the letters S N H D M Y E.
+#[derive(Clone, Copy, Debug, PartialEq, Eq)]
+pub enum Unit {
+    Second,
+    Minute,
+    Hour,
+    Day,
+    Month,
+    Year,
+    MonthEnd,
+}
+
+impl Unit {
+    // The unit that a letter names.
+    pub fn named(letter: u8) -> Option<Unit> {
+        match letter {
+            b'S' => Some(Unit::Second),
+            b'N' => Some(Unit::Minute),
+            b'H' => Some(Unit::Hour),
+            b'D' => Some(Unit::Day),
+            b'M' => Some(Unit::Month),
+            b'Y' => Some(Unit::Year),
+            b'E' => Some(Unit::MonthEnd),
+            _ => None,
+        }
+    }
+}
+
+// So many units on, or back where the count is below 0.
 #[derive(Clone, Copy)]
 pub struct Move {
-    pub unit: u8,
-    pub back: bool,
-    pub count: u64,
-}
-
-pub fn is_unit(b: u8) -> bool {
-    b == b'S' || b == b'N' || b == b'H' || b == b'D' || b == b'M' || b == b'Y' || b == b'E'
-}
-
-fn shifted(n: u64, back: bool, count: u64) -> Option<u64> {
-    if back {
-        n.checked_sub(count)
-    } else {
-        n.checked_add(count)
-    }
+    pub unit: Unit,
+    pub count: i64,
 }
 
 pub fn moved(from: Reading, by: Move) -> Option<Reading> {
     match by.unit {
-        b'S' => by_seconds(from, by.back, by.count),
-        b'N' => by_seconds(from, by.back, by.count.checked_mul(60)?),
-        b'H' => by_seconds(from, by.back, by.count.checked_mul(3600)?),
-        b'D' => {
-            let date = days::numbered(shifted(days::number(from.date), by.back, by.count)?)?;
-            Some(Reading {
-                date,
-                second: from.second,
-            })
-        }
-        b'M' => by_months(from, by.back, by.count, false),
-        b'Y' => by_months(from, by.back, by.count.checked_mul(12)?, false),
-        _ => by_months(from, by.back, by.count, true),
+        Unit::Second => by_seconds(from, by.count),
+        Unit::Minute => by_seconds(from, by.count.checked_mul(60)?),
+        Unit::Hour => by_seconds(from, by.count.checked_mul(3600)?),
+        Unit::Day => by_days(from, by.count),
+        Unit::Month => by_months(from, by.count),
+        Unit::Year => by_months(from, by.count.checked_mul(12)?),
+        Unit::MonthEnd => by_months(from, by.count).map(at_month_end),
     }
 }
 
-fn by_seconds(from: Reading, back: bool, count: u64) -> Option<Reading> {
-    let start = days::number(from.date)
+fn by_seconds(from: Reading, count: i64) -> Option<Reading> {
+    let reached = days::number(from.date)
         .checked_mul(DAY)?
-        .checked_add(from.second)?;
-    let reached = shifted(start, back, count)?;
+        .checked_add(from.second)?
+        .checked_add_signed(count)?;
     Some(Reading {
         date: days::numbered(reached / DAY)?,
         second: reached % DAY,
     })
 }
 
-// Months on or back; the day is cut to the month's length, or is its last one.
-fn by_months(from: Reading, back: bool, count: u64, last: bool) -> Option<Reading> {
-    let start = from.date.year as u64 * 12 + from.date.month.saturating_sub(1) as u64;
-    let reached = shifted(start, back, count)?;
+fn by_days(from: Reading, count: i64) -> Option<Reading> {
+    let date = days::numbered(days::number(from.date).checked_add_signed(count)?)?;
+    Some(Reading { date, ..from })
+}
+
+// Months on or back; the day is cut to the month's length.
+fn by_months(from: Reading, count: i64) -> Option<Reading> {
+    let start = u64::from(from.date.year) * 12 + u64::from(from.date.month.saturating_sub(1));
+    let reached = start.checked_add_signed(count)?;
     if reached >= 120_000 {
         return None;
     }
     let year = (reached / 12) as u16;
     let month = (reached % 12) as u8 + 1;
-    let length = days::month_length(year, month);
-    let day = if last {
-        length
-    } else {
-        from.date.day.min(length)
-    };
-    Some(Reading {
-        date: Day { year, month, day },
-        second: from.second,
-    })
+    let day = from.date.day.min(days::month_length(year, month));
+    let date = Day { year, month, day };
+    Some(Reading { date, ..from })
+}
+
+fn at_month_end(from: Reading) -> Reading {
+    let day = days::month_length(from.date.year, from.date.month);
+    let date = Day { day, ..from.date };
+    Reading { date, ..from }
 }

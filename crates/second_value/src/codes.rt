@@ -1,6 +1,8 @@
 // Parameter codes.
 use crate::elements;
 use crate::elements::Element;
+use std::fmt;
+use std::fmt::Write;
 
 // A full code. Its duration letter is V where the number comes from the message.
 #[derive(Clone, Copy)]
@@ -13,42 +15,52 @@ pub struct Code {
     pub probability: u8,
 }
 
-// A sign of the code, Z where it is not given.
-fn sign(text: &[u8], at: usize) -> u8 {
-    text.get(at).copied().unwrap_or(b'Z')
-}
-
-fn is_sign(b: u8) -> bool {
-    (b'A' <= b && b <= b'Z') || (b'0' <= b && b <= b'9')
-}
-
 pub fn read_code(text: &[u8]) -> Option<Code> {
     if text.len() < 2 || text.len() > 7 {
         return None;
     }
-    let element = elements::element_named(sign(text, 0), sign(text, 1))?;
-    let letter = sign(text, 2);
+    // Signs that are not given are Z.
+    let mut signs = [b'Z'; 7];
+    signs[..text.len()].copy_from_slice(text);
+    let [first, second, letter, given, source, extremum, probability] = signs;
+    let element = elements::element_named([first, second])?;
     let duration = if letter == b'Z' { element.own } else { letter };
     if duration != b'V' && elements::duration(duration).is_none() {
         return None;
     }
-    let given = sign(text, 3);
-    if given < b'A' || given > b'Z' {
-        return None;
-    }
-    let kind = if given == b'Z' { b'R' } else { given };
-    let source = sign(text, 4);
-    let extremum = sign(text, 5);
-    let probability = sign(text, 6);
-    if !is_sign(source) || !is_sign(extremum) || !is_sign(probability) {
+    let free = [source, extremum, probability];
+    let fit = given.is_ascii_uppercase()
+        && free
+            .iter()
+            .all(|b| b.is_ascii_uppercase() || b.is_ascii_digit());
+    if !fit {
         return None;
     }
     Some(Code {
         element,
         duration,
-        kind,
+        kind: if given == b'Z' { b'R' } else { given },
         source,
         extremum,
         probability,
     })
+}
+
+impl fmt::Display for Code {
+    fn fmt<W: fmt::Write>(&self, f: &mut fmt::Formatter<W>) -> fmt::Result {
+        let [first, second] = self.element.letters;
+        let signs = [
+            first,
+            second,
+            self.duration,
+            self.kind,
+            self.source,
+            self.extremum,
+            self.probability,
+        ];
+        for b in signs {
+            f.write_char(char::from(b))?;
+        }
+        Ok(())
+    }
 }

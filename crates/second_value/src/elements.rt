@@ -1,316 +1,91 @@
 // The elements with their conversion from SI to English units, and the durations.
 
-// An SI value times up / down, and plus added, is the English one. Where a code names no duration,
-// it has the element's own. Of some elements a trace can be sent.
+// An SI value times up / down, and plus added, is the English one.
 #[derive(Clone, Copy)]
-pub struct Element {
-    pub first: u8,
-    pub second: u8,
+pub struct Conversion {
     pub up: i64,
     pub down: u64,
     pub plus: i64,
+}
+
+// Where a code names no duration, it has the element's own. Of some elements a trace can be sent.
+#[derive(Clone, Copy)]
+pub struct Element {
+    pub letters: [u8; 2],
+    pub conversion: Conversion,
     pub own: u8,
     pub traced: bool,
 }
 
-const ELEMENTS: [Element; 32] = [
-    Element {
-        first: b'T',
-        second: b'A',
-        up: 9,
-        down: 5,
-        plus: 32,
-        own: b'I',
-        traced: false,
-    },
-    Element {
-        first: b'T',
-        second: b'D',
-        up: 9,
-        down: 5,
-        plus: 32,
-        own: b'I',
-        traced: false,
-    },
-    Element {
-        first: b'T',
-        second: b'M',
-        up: 9,
-        down: 5,
-        plus: 32,
-        own: b'I',
-        traced: false,
-    },
-    Element {
-        first: b'T',
-        second: b'P',
-        up: 9,
-        down: 5,
-        plus: 32,
-        own: b'I',
-        traced: false,
-    },
-    Element {
-        first: b'T',
-        second: b'S',
-        up: 9,
-        down: 5,
-        plus: 32,
-        own: b'I',
-        traced: false,
-    },
-    Element {
-        first: b'P',
-        second: b'P',
-        up: 5,
-        down: 127,
-        plus: 0,
-        own: b'D',
-        traced: true,
-    },
-    Element {
-        first: b'P',
-        second: b'C',
-        up: 5,
-        down: 127,
-        plus: 0,
-        own: b'I',
-        traced: true,
-    },
-    Element {
-        first: b'S',
-        second: b'W',
-        up: 5,
-        down: 127,
-        plus: 0,
-        own: b'I',
-        traced: true,
-    },
-    Element {
-        first: b'S',
-        second: b'F',
-        up: 50,
-        down: 127,
-        plus: 0,
-        own: b'D',
-        traced: true,
-    },
-    Element {
-        first: b'S',
-        second: b'D',
-        up: 50,
-        down: 127,
-        plus: 0,
-        own: b'I',
-        traced: true,
-    },
-    Element {
-        first: b'G',
-        second: b'D',
-        up: 50,
-        down: 127,
-        plus: 0,
-        own: b'I',
-        traced: false,
-    },
-    Element {
-        first: b'I',
-        second: b'T',
-        up: 50,
-        down: 127,
-        plus: 0,
-        own: b'I',
-        traced: false,
-    },
-    Element {
-        first: b'H',
-        second: b'G',
-        up: 1250,
-        down: 381,
-        plus: 0,
-        own: b'I',
-        traced: false,
-    },
-    Element {
-        first: b'H',
-        second: b'K',
-        up: 1250,
-        down: 381,
-        plus: 0,
-        own: b'I',
-        traced: false,
-    },
-    Element {
-        first: b'H',
-        second: b'L',
-        up: 1250,
-        down: 381,
-        plus: 0,
-        own: b'I',
-        traced: false,
-    },
-    Element {
-        first: b'H',
-        second: b'P',
-        up: 1250,
-        down: 381,
-        plus: 0,
-        own: b'I',
-        traced: false,
-    },
-    Element {
-        first: b'H',
-        second: b'T',
-        up: 1250,
-        down: 381,
-        plus: 0,
-        own: b'I',
-        traced: false,
-    },
-    Element {
-        first: b'H',
-        second: b'F',
-        up: 1250,
-        down: 381,
-        plus: 0,
-        own: b'I',
-        traced: false,
-    },
-    Element {
-        first: b'H',
-        second: b'Z',
-        up: 1250,
-        down: 381,
-        plus: 0,
-        own: b'I',
-        traced: false,
-    },
-    Element {
-        first: b'Q',
-        second: b'R',
-        up: 1953125,
-        down: 55306341,
-        plus: 0,
-        own: b'I',
-        traced: false,
-    },
-    Element {
-        first: b'Q',
-        second: b'I',
-        up: 1953125,
-        down: 55306341,
-        plus: 0,
-        own: b'I',
-        traced: false,
-    },
-    Element {
-        first: b'Q',
-        second: b'T',
-        up: 1953125,
-        down: 55306341,
-        plus: 0,
-        own: b'I',
-        traced: false,
-    },
-    Element {
-        first: b'Q',
-        second: b'D',
-        up: 1953125,
-        down: 55306341,
-        plus: 0,
-        own: b'I',
-        traced: false,
-    },
-    Element {
-        first: b'Q',
-        second: b'S',
-        up: 1953125,
-        down: 55306341,
-        plus: 0,
-        own: b'I',
-        traced: false,
-    },
-    Element {
-        first: b'U',
-        second: b'L',
-        up: 15625,
-        down: 25146,
-        plus: 0,
-        own: b'D',
-        traced: false,
-    },
-    Element {
-        first: b'U',
-        second: b'C',
-        up: 15625,
-        down: 25146,
-        plus: 0,
-        own: b'I',
-        traced: false,
-    },
-    Element {
-        first: b'X',
-        second: b'V',
-        up: 15625,
-        down: 25146,
-        plus: 0,
-        own: b'I',
-        traced: false,
-    },
-    Element {
-        first: b'X',
-        second: b'R',
-        up: 1,
-        down: 1,
-        plus: 0,
-        own: b'I',
-        traced: false,
-    },
-    Element {
-        first: b'U',
-        second: b'D',
-        up: 1,
-        down: 1,
-        plus: 0,
-        own: b'I',
-        traced: false,
-    },
-    Element {
-        first: b'S',
-        second: b'A',
-        up: 1,
-        down: 1,
-        plus: 0,
-        own: b'I',
-        traced: false,
-    },
-    Element {
-        first: b'R',
-        second: b'P',
-        up: 1,
-        down: 1,
-        plus: 0,
-        own: b'D',
-        traced: false,
-    },
-    Element {
-        first: b'R',
-        second: b'I',
-        up: 1,
-        down: 1,
-        plus: 0,
-        own: b'D',
-        traced: false,
-    },
-];
+// From degrees Celsius.
+const DEGREES: Conversion = Conversion {
+    up: 9,
+    down: 5,
+    plus: 32,
+};
 
-pub fn element_named(first: u8, second: u8) -> Option<Element> {
-    for row in ELEMENTS.iter() {
-        if row.first == first && row.second == second {
-            return Some(*row);
-        }
-    }
-    None
+// From millimeters.
+const MILLIMETERS: Conversion = Conversion {
+    up: 5,
+    down: 127,
+    plus: 0,
+};
+
+// From centimeters.
+const CENTIMETERS: Conversion = Conversion {
+    up: 50,
+    down: 127,
+    plus: 0,
+};
+
+// From meters.
+const METERS: Conversion = Conversion {
+    up: 1250,
+    down: 381,
+    plus: 0,
+};
+
+// From cubic meters a second.
+const FLOW: Conversion = Conversion {
+    up: 1_953_125,
+    down: 55_306_341,
+    plus: 0,
+};
+
+// From kilometers.
+const KILOMETERS: Conversion = Conversion {
+    up: 15_625,
+    down: 25_146,
+    plus: 0,
+};
+
+const SAME: Conversion = Conversion {
+    up: 1,
+    down: 1,
+    plus: 0,
+};
+
+pub fn element_named(letters: [u8; 2]) -> Option<Element> {
+    let conversion = match &letters {
+        b"TA" | b"TD" | b"TM" | b"TP" | b"TS" => DEGREES,
+        b"PP" | b"PC" | b"SW" => MILLIMETERS,
+        b"SF" | b"SD" | b"GD" | b"IT" => CENTIMETERS,
+        b"HG" | b"HK" | b"HL" | b"HP" | b"HT" | b"HF" | b"HZ" => METERS,
+        b"QR" | b"QI" | b"QT" | b"QD" | b"QS" => FLOW,
+        b"UL" | b"UC" | b"XV" => KILOMETERS,
+        b"XR" | b"UD" | b"SA" | b"RP" | b"RI" => SAME,
+        _ => return None,
+    };
+    let own = match &letters {
+        b"PP" | b"SF" | b"UL" | b"RP" | b"RI" => b'D',
+        _ => b'I',
+    };
+    Some(Element {
+        letters,
+        conversion,
+        own,
+        traced: matches!(&letters, b"PP" | b"PC" | b"SW" | b"SF" | b"SD"),
+    })
 }
 
 const DURATIONS: [(u8, u16); 20] = [
@@ -338,10 +113,8 @@ const DURATIONS: [(u8, u16); 20] = [
 
 // The number of a duration letter.
 pub fn duration(letter: u8) -> Option<u16> {
-    for row in DURATIONS.iter() {
-        if row.0 == letter {
-            return Some(row.1);
-        }
-    }
-    None
+    DURATIONS
+        .iter()
+        .find(|row| row.0 == letter)
+        .map(|row| row.1)
 }

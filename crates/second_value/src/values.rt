@@ -1,137 +1,123 @@
 // Values: numbers, missing ones and traces, and their conversion.
-use crate::elements::Element;
+use crate::elements::{Conversion, Element};
 
 // The number of ten-thousandths that says missing.
 const MISSING: i64 = -99_990_000;
 
-// An amount in ten-thousandths, none where it is missing, and its qualifier.
-#[derive(Clone, Copy)]
+// A number is in ten-thousandths.
+#[derive(Clone, Copy, Debug, PartialEq, Eq)]
+pub enum Amount {
+    Missing,
+    Trace,
+    Number(i64),
+}
+
+#[derive(Clone, Copy, Debug, PartialEq, Eq)]
 pub struct Value {
-    pub amount: Option<i64>,
+    pub amount: Amount,
     pub qualifier: u8,
 }
 
-#[derive(Clone, Copy)]
-pub enum Bad {
-    Unread,
-    TooLarge,
-}
-
-// How many digits stand in a row from a place on.
-fn digits_from(text: &[u8], at: usize) -> usize {
-    let mut count: usize = 0;
-    for (i, b) in text.iter().enumerate() {
-        if i >= at {
-            if *b < b'0' || *b > b'9' {
-                return count;
-            }
-            count = count.saturating_add(1);
+impl Amount {
+    fn of(number: i64) -> Amount {
+        if number == MISSING {
+            Amount::Missing
+        } else {
+            Amount::Number(number)
         }
     }
-    count
 }
 
-// The digits from a place on, as a number; places behind the end count as 0.
-fn decimal(text: &[u8], at: usize, count: usize, width: usize) -> i64 {
-    let mut sum: i64 = 0;
-    for k in 0..width {
-        let b = text.get(at.saturating_add(k)).copied().unwrap_or(b'0');
-        let digit = if k < count {
-            i64::from(b.saturating_sub(b'0'))
-        } else {
-            0
-        };
-        sum = sum.saturating_mul(10).saturating_add(digit);
-    }
-    sum
+// The digits that a text begins with, and what stands behind them.
+fn digits(text: &[u8]) -> (&[u8], &[u8]) {
+    let end = text.iter().position(|b| !b.is_ascii_digit());
+    text.split_at(end.unwrap_or(text.len()))
 }
 
 // A number in ten-thousandths with its qualifier.
 fn read_number(text: &[u8]) -> Option<(i64, u8)> {
-    let mark = text.first().copied()?;
-    let at: usize = if mark == b'+' || mark == b'-' { 1 } else { 0 };
-    let whole = digits_from(text, at);
-    let mut end = at.saturating_add(whole);
-    let mut decimals: usize = 0;
-    let mut size = decimal(text, at, whole, whole.min(8)).saturating_mul(10_000);
-    if text.get(end).copied() == Some(b'.') {
-        let behind = end.saturating_add(1);
-        decimals = digits_from(text, behind);
-        size = size.saturating_add(decimal(text, behind, decimals, 4));
-        end = behind.saturating_add(decimals);
-    }
-    if whole > 8 || decimals > 4 || (whole == 0 && decimals == 0) {
+    let (negative, unsigned) = match text {
+        [b'-', unsigned @ ..] => (true, unsigned),
+        [b'+', unsigned @ ..] => (false, unsigned),
+        _ => (false, text),
+    };
+    let (whole, behind) = digits(unsigned);
+    let (decimals, rest) = match behind {
+        [b'.', behind @ ..] => digits(behind),
+        _ => behind.split_at(0),
+    };
+    if whole.len() > 8 || decimals.len() > 4 || (whole.is_empty() && decimals.is_empty()) {
         return None;
     }
-    let qualifier = text.get(end).copied().unwrap_or(b'Z');
-    if text.len() > end.saturating_add(1) || qualifier < b'A' || qualifier > b'Z' {
-        return None;
-    }
-    if mark == b'-' {
-        Some((0i64.saturating_sub(size), qualifier))
+    let qualifier = match rest {
+        [] => b'Z',
+        [qualifier @ b'A'..=b'Z'] => *qualifier,
+        _ => return None,
+    };
+    let size = whole
+        .iter()
+        .chain(decimals.iter())
+        .chain(b"0000".iter())
+        .take(whole.len() + 4)
+        .fold(0i64, |sum, b| {
+            let digit = i64::from(b.saturating_sub(b'0'));
+            sum.saturating_mul(10).saturating_add(digit)
+        });
+    let number = if negative {
+        size.saturating_neg()
     } else {
-        Some((size, qualifier))
+        size
+    };
+    Some((number, qualifier))
+}
+
+impl Conversion {
+    // The English number of an SI one, rounded half away from zero.
+    fn english(self, number: i64) -> Option<i64> {
+        let added = self
+            .plus
+            .checked_mul(10_000)?
+            .checked_mul(i64::try_from(self.down).ok()?)?;
+        let exact = number.checked_mul(self.up)?.checked_add(added)?;
+        let down = u128::from(self.down);
+        let rounded = (u128::from(exact.unsigned_abs()) * 2 + down).checked_div(down * 2)?;
+        if rounded >= 1_000_000_000_000 {
+            return None;
+        }
+        let size = rounded as i64;
+        Some(if exact < 0 { -size } else { size })
     }
 }
 
-// The amount in English units of one in SI units, rounded half away from zero.
-fn converted(amount: i64, element: Element) -> Option<i64> {
-    let added = element
-        .plus
-        .checked_mul(10_000)?
-        .checked_mul(i64::try_from(element.down).ok()?)?;
-    let exact = amount.checked_mul(element.up)?.checked_add(added)?;
-    let twice = u128::from(element.down) * 2;
-    if twice == 0 {
-        return None;
-    }
-    let rounded = (u128::from(exact.unsigned_abs()) * 2 + u128::from(element.down)) / twice;
-    if rounded >= 1_000_000_000_000 {
-        return None;
-    }
-    let size = rounded as i64;
-    if exact < 0 {
-        Some(0i64.saturating_sub(size))
-    } else {
-        Some(size)
-    }
-}
-
-pub fn read_value(text: &[u8], element: Element, si: bool) -> Result<Value, Bad> {
+// A value as it was sent.
+pub fn read_value(text: &[u8], element: Element) -> Option<Value> {
+    let qualifier = b'Z';
     if text == b"M".as_slice() || text == b"MM".as_slice() {
-        return Ok(Value {
-            amount: None,
-            qualifier: b'Z',
+        return Some(Value {
+            amount: Amount::Missing,
+            qualifier,
         });
     }
     if text == b"T".as_slice() && element.traced {
-        return Ok(Value {
-            amount: Some(10),
-            qualifier: b'Z',
-        });
-    }
-    let Some((sent, qualifier)) = read_number(text) else {
-        return Err(Bad::Unread);
-    };
-    if sent == MISSING {
-        return Ok(Value {
-            amount: None,
+        return Some(Value {
+            amount: Amount::Trace,
             qualifier,
         });
     }
-    if !si {
-        return Ok(Value {
-            amount: Some(sent),
-            qualifier,
-        });
+    let (number, qualifier) = read_number(text)?;
+    Some(Value {
+        amount: Amount::of(number),
+        qualifier,
+    })
+}
+
+impl Value {
+    // The value in English units of one that was sent in SI units, if it is not too large.
+    pub fn from_si(self, conversion: Conversion) -> Option<Value> {
+        let Amount::Number(number) = self.amount else {
+            return Some(self);
+        };
+        let amount = Amount::of(conversion.english(number)?);
+        Some(Value { amount, ..self })
     }
-    let Some(english) = converted(sent, element) else {
-        return Err(Bad::TooLarge);
-    };
-    let amount = if english == MISSING {
-        None
-    } else {
-        Some(english)
-    };
-    Ok(Value { amount, qualifier })
 }

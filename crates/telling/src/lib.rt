@@ -4,5 +4,5 @@
 mod outcomes;
 mod saying;
 
-pub use outcomes::{faults, rows, same};
-pub use saying::{put_number, say, show, show_text, verdict};
+pub use outcomes::{faults, rows};
+pub use saying::{show, show_text, verdict};

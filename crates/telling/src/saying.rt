@@ -1,67 +1,43 @@
 // What is printed of outcomes and texts.
 use std::alloc::{AllocError, Global};
 
-const HEXADECIMAL: [u8; 16] = *b"0123456789abcdef";
-
-// Adds a number, and what stands behind it.
-pub fn put_number(
-    heap: Global,
-    out: &mut String,
-    number: usize,
-    behind: &str,
-) -> Result<(), AllocError> {
-    out.push_str(format!(in heap; "{number}")?.as_str())?;
-    out.push_str(behind)?;
-    Ok(())
-}
-
-pub fn say(rt: &HostRuntime, line: &str) -> anyhow::Result<()> {
-    println!(rt; "{line}")?;
-    Ok(())
-}
-
 pub fn verdict(alike: bool, as_told: bool) -> &'static str {
-    if !as_told {
-        return ", NOT AS TOLD";
+    match (as_told, alike) {
+        (false, _) => ", NOT AS TOLD",
+        (true, false) => ", THE DECODERS DIFFER",
+        (true, true) => "",
     }
-    if alike { "" } else { ", THE DECODERS DIFFER" }
 }
 
 fn say_all(rt: &HostRuntime, lines: &[String]) -> anyhow::Result<()> {
     for line in lines {
-        say(rt, line.as_str())?;
+        println!(rt; "{line}")?;
     }
     Ok(())
 }
 
 pub fn show(rt: &HostRuntime, came: &[String], told: &[String]) -> anyhow::Result<()> {
-    say(rt, "  what came:")?;
+    println!(rt; "  what came:")?;
     say_all(rt, came)?;
-    say(rt, "  what is told:")?;
+    println!(rt; "  what is told:")?;
     say_all(rt, told)
 }
 
-fn digit(number: u8) -> char {
-    char::from(HEXADECIMAL[usize::from(number % 16)])
-}
-
-fn put_byte(out: &mut String, b: u8) -> Result<(), AllocError> {
-    if b == 10 || (32 <= b && b <= 126) {
-        out.push(char::from(b))?;
-        return Ok(());
+// A text with the bytes that do not print as their numbers in braces.
+fn printable(heap: Global, text: &[u8]) -> Result<String, AllocError> {
+    let mut out = String::new(heap);
+    for b in text {
+        match *b {
+            b'\n' | b' '..=b'~' => out.push(char::from(*b))?,
+            other => write!(out, "{{{other:02x}}}")?,
+        }
     }
-    out.push('{')?;
-    out.push(digit(b / 16))?;
-    out.push(digit(b))?;
-    out.push('}')?;
-    Ok(())
+    Ok(out)
 }
 
 // A text on which the decoders differ.
-pub fn show_text(rt: &HostRuntime, heap: Global, text: &[u8]) -> anyhow::Result<()> {
-    let mut out = String::new(heap);
-    for b in text {
-        put_byte(&mut out, *b)?;
-    }
-    say(rt, out.as_str())
+pub fn show_text(rt: &HostRuntime, text: &[u8]) -> anyhow::Result<()> {
+    let shown = printable(rt.alloc(), text)?;
+    println!(rt; "{shown}")?;
+    Ok(())
 }

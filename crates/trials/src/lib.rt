@@ -2,11 +2,11 @@
 #![tactic(auto)]
 
 use cases::Case;
-use reporting::{NONE, Tally, case_line, counted, is_as_told, show_difference, show_tally};
-use second::Outcome;
+use reporting::{Tally, case_line, is_as_told, show_difference, show_tally};
+use second::{Day, Outcome};
 use std::alloc::{AllocError, Global};
 
-// A decoder that is held to the second one.
+// A decoder that is held to the second one. A trait and no closure, for which `try_list` would need a `requires`.
 pub trait Peer {
     // Whether it gives this outcome for a text under the date and the room of a case.
     fn agrees(
@@ -18,115 +18,98 @@ pub trait Peer {
     ) -> Result<bool, AllocError>;
 }
 
+// A peer, and the runtime of its trials.
+#[derive_where(Clone, Copy)]
+struct Trials<'a, P: Peer> {
+    rt: &'a HostRuntime,
+    peer: &'a P,
+}
+
 fn decoded(heap: Global, case: &Case, text: &[u8]) -> Result<Outcome, AllocError> {
-    second::decode(heap, text, case.year, case.month, case.day, case.room)
+    let today = Day {
+        year: case.year,
+        month: case.month,
+        day: case.day,
+    };
+    second::decode(heap, text, today, case.room)
 }
 
-// A case as it stands.
-fn try_case<P: Peer>(
-    rt: &HostRuntime,
-    heap: Global,
-    peer: &P,
-    case: &Case,
-) -> anyhow::Result<Tally> {
-    let text = case.text.as_slice();
-    let outcome = decoded(heap, case, text)?;
-    let alike = peer.agrees(heap, case, text, &outcome)?;
-    let as_told = is_as_told(rt, heap, case, &outcome)?;
-    let verdict = telling::verdict(alike, as_told);
-    let line = case_line(heap, case.name.as_str(), &outcome, verdict)?;
-    telling::say(rt, line.as_str())?;
-    Ok(counted(&outcome, alike && as_told))
-}
-
-// Another text under the date and the room of a case.
-fn try_text<P: Peer>(
-    rt: &HostRuntime,
-    heap: Global,
-    peer: &P,
-    case: &Case,
-    text: &[u8],
-    place: usize,
-) -> anyhow::Result<Tally> {
-    let outcome = decoded(heap, case, text)?;
-    let alike = peer.agrees(heap, case, text, &outcome)?;
-    if !alike {
-        show_difference(rt, heap, case.name.as_str(), text, place)?;
+impl<'a, P: Peer> Trials<'a, P> {
+    // A case as it stands.
+    fn try_case(&self, case: &Case) -> anyhow::Result<Tally> {
+        let heap = self.rt.alloc();
+        let text = case.text.as_slice();
+        let outcome = decoded(heap, case, text)?;
+        let alike = self.peer.agrees(heap, case, text, &outcome)?;
+        let as_told = is_as_told(self.rt, case, &outcome)?;
+        let verdict = telling::verdict(alike, as_told);
+        let line = case_line(heap, case.name.as_str(), &outcome, verdict)?;
+        let rt = self.rt;
+        println!(rt; "{line}")?;
+        Ok(Tally::of(&outcome, alike && as_told))
     }
-    Ok(counted(&outcome, alike))
-}
 
-// A case with a byte damaged in four ways, and with a second byte damaged besides.
-fn try_harms<P: Peer>(
-    rt: &HostRuntime,
-    heap: Global,
-    peer: &P,
-    case: &Case,
-    at: usize,
-) -> anyhow::Result<Tally> {
-    let mut sum = NONE;
-    let other = at.wrapping_mul(13).wrapping_add(7) % case.text.len().max(1);
-    for round in 0..4usize {
-        let once = cases::damaged(heap, case.text.as_slice(), at, cases::harm_at(at, round))?;
-        sum = sum.with(try_text(rt, heap, peer, case, once.as_slice(), at)?);
-        let twice = cases::damaged(
-            heap,
-            once.as_slice(),
-            other,
-            cases::harm_at(other, round.saturating_add(1)),
-        )?;
-        sum = sum.with(try_text(rt, heap, peer, case, twice.as_slice(), at)?);
-    }
-    Ok(sum)
-}
-
-// A case with some of its bytes damaged, spread over its text.
-fn try_damaged<P: Peer>(
-    rt: &HostRuntime,
-    heap: Global,
-    peer: &P,
-    case: &Case,
-) -> anyhow::Result<Tally> {
-    let mut sum = NONE;
-    let stride = case.text.len() / 40 + 1;
-    for at in 0..case.text.len() {
-        if at % stride == 0 {
-            sum = sum.with(try_harms(rt, heap, peer, case, at)?);
+    // Another text under the date and the room of a case.
+    fn try_text(&self, case: &Case, text: &[u8], place: usize) -> anyhow::Result<Tally> {
+        let heap = self.rt.alloc();
+        let outcome = decoded(heap, case, text)?;
+        let alike = self.peer.agrees(heap, case, text, &outcome)?;
+        if !alike {
+            show_difference(self.rt, case.name.as_str(), text, place)?;
         }
+        Ok(Tally::of(&outcome, alike))
     }
-    Ok(sum)
-}
 
-// The text of a case with that of the next case behind it.
-fn try_joined<P: Peer>(
-    rt: &HostRuntime,
-    heap: Global,
-    peer: &P,
-    case: &Case,
-    next: &Case,
-) -> anyhow::Result<Tally> {
-    let mut text = case.text.as_slice().to_vec(heap)?;
-    text.extend_from_slice(next.text.as_slice())?;
-    try_text(rt, heap, peer, case, text.as_slice(), case.text.len())
+    // A case with a byte damaged in four ways, and with a second byte damaged besides.
+    fn try_harms(&self, case: &Case, at: usize) -> anyhow::Result<Tally> {
+        let heap = self.rt.alloc();
+        let mut sum = Tally::default();
+        let text = case.text.as_slice();
+        let other = at.wrapping_mul(13).wrapping_add(7) % text.len().max(1);
+        for round in 0..4usize {
+            let once = cases::damaged(heap, text, at, cases::harm_at(at, round))?;
+            sum = sum + self.try_text(case, once.as_slice(), at)?;
+            let harm = cases::harm_at(other, round.saturating_add(1));
+            let twice = cases::damaged(heap, once.as_slice(), other, harm)?;
+            sum = sum + self.try_text(case, twice.as_slice(), at)?;
+        }
+        Ok(sum)
+    }
+
+    // A case with some of its bytes damaged, spread over its text.
+    fn try_damaged(&self, case: &Case) -> anyhow::Result<Tally> {
+        let mut sum = Tally::default();
+        let stride = case.text.len() / 40 + 1;
+        for at in (0..case.text.len()).step_by(stride) {
+            sum = sum + self.try_harms(case, at)?;
+        }
+        Ok(sum)
+    }
+
+    // The text of a case with another text behind it.
+    fn try_joined(&self, case: &Case, behind: &[u8]) -> anyhow::Result<Tally> {
+        let mut text = case.text.as_slice().to_vec(self.rt.alloc())?;
+        text.extend_from_slice(behind)?;
+        self.try_text(case, text.as_slice(), case.text.len())
+    }
 }
 
 // All cases of a list, as they stand, joined and damaged.
-pub fn try_list<P: Peer>(
-    rt: &HostRuntime,
-    heap: Global,
-    peer: &P,
-    list: &str,
-) -> anyhow::Result<Tally> {
-    let mut whole = NONE;
-    let mut harmed = NONE;
-    for at in 0..cases::count_of(list) {
-        let case = cases::case_of(heap, list, at)?;
-        let next = cases::case_of(heap, list, at.saturating_add(1))?;
-        whole = whole.with(try_case(rt, heap, peer, &case)?);
-        harmed = harmed.with(try_joined(rt, heap, peer, &case, &next)?);
-        harmed = harmed.with(try_damaged(rt, heap, peer, &case)?);
+pub fn try_list<P: Peer>(rt: &HostRuntime, peer: &P, list: &str) -> anyhow::Result<Tally> {
+    let trials = Trials { rt, peer };
+    let mut whole = Tally::default();
+    let mut harmed = Tally::default();
+    let cases = cases::read_list(rt.alloc(), list)?;
+    for (i, case) in cases.iter().enumerate() {
+        let behind: &[u8] = match cases.get(i.saturating_add(1)) {
+            Some(next) => next.text.as_slice(),
+            None => &[],
+        };
+        whole = whole + trials.try_case(case)?;
+        harmed = harmed + trials.try_joined(case, behind)?;
+        harmed = harmed + trials.try_damaged(case)?;
     }
     show_tally(rt, "texts", whole)?;
     show_tally(rt, "joined and damaged texts", harmed)?;
-    Ok(whole.with(harmed))
+    Ok(whole + harmed)
 }

@@ -1,0 +1,65 @@
+// Why a line, an item or a text was not taken, and where.
+use std::alloc::{AllocError, AllocFailed};
+
+// Each refusal has the number by which users know it.
+#[derive(Clone, Copy, Debug, PartialEq, Eq)]
+pub enum Refusal {
+    CurrentDate = 1,
+    Unreadable = 2,
+    Continuation = 3,
+    Station = 4,
+    Date = 5,
+    Setting = 6,
+    Code = 7,
+    NoCode = 8,
+    NoDuration = 9,
+    Value = 10,
+    TooLarge = 11,
+    NoTime = 12,
+    Unfinished = 13,
+    NoRoom = 14,
+}
+
+impl Refusal {
+    pub fn number(self) -> u8 {
+        self as u8
+    }
+
+    pub fn at(self, place: usize) -> Fault {
+        Fault {
+            refusal: self,
+            place,
+        }
+    }
+}
+
+#[derive(Clone, Copy, Debug, PartialEq, Eq)]
+pub struct Fault {
+    pub refusal: Refusal,
+    pub place: usize,
+}
+
+// Why a line or an item was not taken: no memory, or a fault.
+#[derive(Clone, Copy, Debug, PartialEq, Eq)]
+pub enum Trouble {
+    Memory,
+    Found(Fault),
+}
+
+impl From<AllocError> for Trouble {
+    fn from(_e: AllocError) -> Trouble {
+        Trouble::Memory
+    }
+}
+
+impl<T: Drop> From<AllocFailed<T>> for Trouble {
+    fn from(_e: AllocFailed<T>) -> Trouble {
+        Trouble::Memory
+    }
+}
+
+impl From<Fault> for Trouble {
+    fn from(fault: Fault) -> Trouble {
+        Trouble::Found(fault)
+    }
+}
