@@ -7,6 +7,9 @@
 // where it is not 0. In a text `{HH}` is the byte with that number in hexadecimal digits, `{HH*N}` is
 // N such bytes, and `{.}` takes away the line feed of its line. Lines before the first case of a list
 // say what it is about.
+ghost use Rattle.std.specs.Prelude.{◌≡◌, vec_len, IfOk};
+ghost use Rattle.cases.specs.Lists.{count_of_cases};
+
 use std::alloc::{AllocError, Global};
 
 #[derive(Drop)]
@@ -22,7 +25,9 @@ pub struct Case {
 }
 
 // The cases of a list, in their order.
-pub fn read_list(heap: Global, list: &str) -> Result<Vec<Case>, AllocError> {
+pub fn read_list(heap: Global, list: &str) -> Result<Vec<Case>, AllocError>
+    ensures { IfOk result (λ cases. vec_len cases ≡ count_of_cases list.now) }
+{
     let mut cases = Vec::new(heap);
     for line in list.lines() {
         if let Some(head) = line.strip_prefix("=== ") {
@@ -91,4 +96,33 @@ fn put_bytes(text: &mut Vec<u8>, braced: &str) -> Result<(), AllocError> {
         text.push(byte)?;
     }
     Ok(())
+}
+
+#[cfg(test)]
+mod tests {
+    use super::*;
+
+    const LIST: &str = "\
+What the list is about.
+=== 20240320 800 first
+.A KLMO3 0310 Z HG {32}{.}
+---
+fault 10 at 16
+=== 20240321 1 second
+";
+
+    #[test]
+    fn reads_a_list(rt: HostRuntime) -> Result<(), AllocError> {
+        let cases = read_list(rt.alloc(), LIST)?;
+        assert_eq!(rt; cases.len(), 2);
+        let first = &cases[0];
+        assert_eq!(rt; first.name.as_str(), "first");
+        assert_eq!(rt; (first.year, first.month, first.day), (2024, 3, 20));
+        assert_eq!(rt; first.room, 800);
+        assert_eq!(rt; first.text.as_slice(), b".A KLMO3 0310 Z HG 2".as_slice());
+        assert!(rt; first.outcome.is_some());
+        assert_eq!(rt; cases[1].name.as_str(), "second");
+        assert!(rt; cases[1].outcome.is_none());
+        Ok(())
+    }
 }

@@ -1,3 +1,6 @@
+ghost use Rattle.std.specs.Prelude.{◌≡◌, Some, cond, vec_len};
+ghost use Rattle.reporting.specs.Tallies.{both, tally_text};
+
 use anyhow::ensure;
 use second::Outcome;
 use std::fmt;
@@ -16,6 +19,8 @@ pub struct Tally {
 impl Add for Tally {
     type Output = Tally;
 
+    ghost add_gives = { λ a b r. r ≡ both a b };
+
     fn add(self, other: Tally) -> Tally {
         Tally {
             texts: self.texts.saturating_add(other.texts),
@@ -27,6 +32,8 @@ impl Add for Tally {
 }
 
 impl fmt::Display for Tally {
+    ghost output = { λ t. Some (tally_text t) };
+
     fn fmt<W: fmt::Write>(&self, f: &mut fmt::Formatter<W>) -> fmt::Result {
         let records = self.records;
         let faults = self.faults;
@@ -40,7 +47,12 @@ impl fmt::Display for Tally {
 
 impl Tally {
     // Of one text.
-    pub fn of(outcome: &Outcome, good: bool) -> Tally {
+    pub fn of(outcome: &Outcome, good: bool) -> Tally
+        ensures texts { result.texts ≡ 1 }
+        ensures records { result.records ≡ vec_len outcome.now.records }
+        ensures faults { result.faults ≡ vec_len outcome.now.faults }
+        ensures differing { result.differing ≡ cond good 0 1 }
+    {
         Tally {
             texts: 1,
             records: outcome.records.len(),

@@ -1,4 +1,7 @@
 // The lines of a text: what begins, continues and ends a message.
+ghost use Rattle.std.specs.Prelude.{◌≡◌};
+ghost use Rattle.second.specs.Answers.{number_of};
+
 use second_items::reader::{Log, Message, Mode, Reader};
 use second_items::refusals::{Fault, Refusal, Trouble};
 use second_listing::{Name, Series};
@@ -22,7 +25,9 @@ pub enum Answer {
 
 impl Answer {
     // The number by which users know it.
-    pub fn number(self) -> u8 {
+    pub fn number(self) -> u8
+        ensures { result ≡ number_of self }
+    {
         self as u8
     }
 }

@@ -1,4 +1,8 @@
 // Why a line, an item or a text was not taken, and where.
+ghost use Rattle.std.specs.Prelude.{◌≡◌};
+ghost use Rattle.second_items.specs.Refusals.{number_of};
+ghost use Rattle.second_items.specs.declared.refusals.Trouble.TheVariants as trouble;
+
 use std::alloc::{AllocError, AllocFailed};
 
 // Each refusal has the number by which users know it.
@@ -21,11 +25,16 @@ pub enum Refusal {
 }
 
 impl Refusal {
-    pub fn number(self) -> u8 {
+    pub fn number(self) -> u8
+        ensures { result ≡ number_of self }
+    {
         self as u8
     }
 
-    pub fn at(self, place: usize) -> Fault {
+    // The fault of this refusal at a place.
+    pub fn at(self, place: usize) -> Fault
+        ensures { result ≡ record { refusal = self; place = place } }
+    {
         Fault {
             refusal: self,
             place,
@@ -59,6 +68,8 @@ impl<T: Drop> From<AllocFailed<T>> for Trouble {
 }
 
 impl From<Fault> for Trouble {
+    ghost from_gives = { λ fault r. r ≡ trouble.Found fault };
+
     fn from(fault: Fault) -> Trouble {
         Trouble::Found(fault)
     }

@@ -1,4 +1,7 @@
 // The listing line of a record.
+ghost use Rattle.std.specs.Prelude.{Some};
+ghost use Rattle.second_listing.specs.Names.{name_text};
+
 use second_time::moves::Reading;
 use second_value::codes::Code;
 use second_value::values::{Amount, Value};
@@ -20,6 +23,8 @@ pub fn padded(word: &[u8]) -> Name {
 }
 
 impl fmt::Display for Name {
+    ghost output = { λ n. Some (name_text n) };
+
     fn fmt<W: fmt::Write>(&self, f: &mut fmt::Formatter<W>) -> fmt::Result {
         for b in self.signs {
             f.write_char(char::from(b))?;

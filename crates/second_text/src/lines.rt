@@ -1,4 +1,8 @@
 // Lines of a text and what kind of line each is.
+ghost use Rattle.std.specs.Prelude.{◌≡◌, ◌≢◌, MatchOption, drop, length, min};
+ghost use Rattle.second_text.specs.Letters.{count_of, letter_of};
+ghost use Rattle.second_text.specs.Parts.{place_behind};
+
 use crate::parts::Part;
 use std::alloc::{AllocError, Global};
 
@@ -12,7 +16,9 @@ pub enum Form {
 
 impl Form {
     // The form that a letter names.
-    pub fn named(letter: u8) -> Option<Form> {
+    fn named(letter: u8) -> Option<Form>
+        ensures { MatchOption result ((f : Form) → letter_of f ≢ letter) (λ f. letter_of f ≡ letter) }
+    {
         match letter {
             b'A' => Some(Form::Single),
             b'B' => Some(Form::Table),
@@ -56,8 +62,12 @@ pub fn lines(heap: Global, text: &[u8]) -> Result<Vec<Part<'_>>, AllocError> {
 
 impl Letters {
     // What stands behind these letters in a line that begins with them.
-    pub fn behind(self, line: Part<'_>) -> Part<'_> {
-        let (_, behind) = line.split(if self.revised { 3 } else { 2 });
+    pub fn behind(self, line: Part<'_>) -> Part<'_>
+        ensures bytes { result.bytes.now ≡ drop (count_of self) line.entry.bytes.now }
+        ensures place { result.place ≡ place_behind line.entry.place (min (count_of self) (length line.entry.bytes.now)) }
+    {
+        let count: usize = if self.revised { 3 } else { 2 };
+        let (_, behind) = line.split(count.min(line.bytes.len()));
         behind
     }
 }

@@ -1,4 +1,7 @@
 // Readings, which are a local date and a second of the day, and moves of them.
+ghost use Rattle.std.specs.Prelude.{◌≡◌, ◌≢◌, MatchOption};
+ghost use Rattle.second_time.specs.Units.{letter_of};
+
 use crate::days;
 use crate::days::Day;
 
@@ -23,7 +26,9 @@ pub enum Unit {
 
 impl Unit {
     // The unit that a letter names.
-    pub fn named(letter: u8) -> Option<Unit> {
+    pub fn named(letter: u8) -> Option<Unit>
+        ensures { MatchOption result ((u : Unit) → letter_of u ≢ letter) (λ u. letter_of u ≡ letter) }
+    {
         match letter {
             b'S' => Some(Unit::Second),
             b'N' => Some(Unit::Minute),

@@ -1,4 +1,7 @@
 // Parameter codes.
+ghost use Rattle.std.specs.Prelude.{◌≡◌, Some};
+ghost use Rattle.second_value.specs.Codes.{code_text, signs_of};
+
 use crate::elements;
 use crate::elements::Element;
 use std::fmt;
@@ -46,10 +49,12 @@ pub fn read_code(text: &[u8]) -> Option<Code> {
     })
 }
 
-impl fmt::Display for Code {
-    fn fmt<W: fmt::Write>(&self, f: &mut fmt::Formatter<W>) -> fmt::Result {
+impl Code {
+    fn signs(self) -> [u8; 7]
+        ensures { result ≡ signs_of self }
+    {
         let [first, second] = self.element.letters;
-        let signs = [
+        [
             first,
             second,
             self.duration,
@@ -57,8 +62,15 @@ impl fmt::Display for Code {
             self.source,
             self.extremum,
             self.probability,
-        ];
-        for b in signs {
+        ]
+    }
+}
+
+impl fmt::Display for Code {
+    ghost output = { λ c. Some (code_text c) };
+
+    fn fmt<W: fmt::Write>(&self, f: &mut fmt::Formatter<W>) -> fmt::Result {
+        for b in self.signs() {
             f.write_char(char::from(b))?;
         }
         Ok(())

@@ -1,4 +1,8 @@
 // Values: numbers, missing ones and traces, and their conversion.
+ghost use Rattle.std.specs.Prelude.{◌≡◌, ◌+◌, ◌*◌, ◌/◌, ◌<◌, pos, IfSome, IsSome};
+ghost use Rattle.second_value.specs.Conversions.{IsAddable, IsConvertible, added, amount_of, converted, english, exact};
+ghost use Rattle.second_value.specs.declared.values.Amount.TheVariants.{Number};
+
 use crate::elements::{Conversion, Element};
 
 // The number of ten-thousandths that says missing.
@@ -19,7 +23,9 @@ pub struct Value {
 }
 
 impl Amount {
-    fn of(number: i64) -> Amount {
+    fn of(number: i64) -> Amount
+        ensures { result ≡ amount_of number }
+    {
         if number == MISSING {
             Amount::Missing
         } else {
@@ -73,19 +79,45 @@ fn read_number(text: &[u8]) -> Option<(i64, u8)> {
 
 impl Conversion {
     // The English number of an SI one, rounded half away from zero.
-    fn english(self, number: i64) -> Option<i64> {
-        let added = self
-            .plus
-            .checked_mul(10_000)?
-            .checked_mul(i64::try_from(self.down).ok()?)?;
-        let exact = number.checked_mul(self.up)?.checked_add(added)?;
+    fn english(self, number: i64) -> Option<i64>
+        ensures value { IfSome result (λ n. n ≡ english self number) }
+        ensures kept { IsConvertible self (Number number) → IsSome result }
+    {
+        let exact = self.exact(number)?;
+        let size = self.rounded(exact.unsigned_abs())?;
+        Some(if exact < 0 { -size } else { size })
+    }
+
+    // Down times the English number.
+    fn exact(self, number: i64) -> Option<i64>
+        ensures value { IfSome result (λ n. n ≡ exact self number) }
+        ensures kept { IsConvertible self (Number number) → IsSome result }
+    {
+        let times = number.checked_mul(self.up)?;
+        times.checked_add(self.added()?)
+    }
+
+    // What is added to a number times up.
+    fn added(self) -> Option<i64>
+        ensures value { IfSome result (λ n. n ≡ added self) }
+        ensures kept { IsAddable self → IsSome result }
+    {
+        let down = i64::try_from(self.down).ok()?;
+        let plus = self.plus.checked_mul(10_000)?;
+        plus.checked_mul(down)
+    }
+
+    // A size divided by down, if the outcome is not too large.
+    fn rounded(self, size: u64) -> Option<i64>
+        ensures value { IfSome result (λ n. n ≡ pos ((size * 2 + self.down) / (self.down * 2))) }
+        ensures kept { 0 < self.down → (size * 2 + self.down) / (self.down * 2) < 1000000000000 → IsSome result }
+    {
         let down = u128::from(self.down);
-        let rounded = (u128::from(exact.unsigned_abs()) * 2 + down).checked_div(down * 2)?;
+        let rounded = (u128::from(size) * 2 + down).checked_div(down * 2)?;
         if rounded >= 1_000_000_000_000 {
             return None;
         }
-        let size = rounded as i64;
-        Some(if exact < 0 { -size } else { size })
+        i64::try_from(rounded).ok()
     }
 }
 
@@ -113,7 +145,11 @@ pub fn read_value(text: &[u8], element: Element) -> Option<Value> {
 
 impl Value {
     // The value in English units of one that was sent in SI units, if it is not too large.
-    pub fn from_si(self, conversion: Conversion) -> Option<Value> {
+    pub fn from_si(self, conversion: Conversion) -> Option<Value>
+        ensures amount { IfSome result (λ v. v.amount ≡ converted conversion self.amount) }
+        ensures qualifier { IfSome result (λ v. v.qualifier ≡ self.qualifier) }
+        ensures kept { IsConvertible conversion self.amount → IsSome result }
+    {
         let Amount::Number(number) = self.amount else {
             return Some(self);
         };
