@@ -1,5 +1,5 @@
 -- A text, line after line.
-use Rattle.std.proofs.Common.{◌≡◌, ◌<◌, ◌^◌, ℕ, ◌+◌, ◌-◌, true, false, cond, List, [], ◌∷◌, ◌++◌, length, take, sym, refl, ap, ◌∙◌, subst, ⊎_elim, append_assoc, arith, length-append}
+use Rattle.std.proofs.Common.{◌≡◌, ℕ, ◌+◌, ◌-◌, true, false, cond, List, [], ◌∷◌, ◌++◌, length, take, sym, refl, ap, ◌∙◌, subst, ⊎_elim, append_assoc, arith, length-append}
 use Rattle.std.proofs.lemmas.Bool.{cond-true, cond-false, cases_Bool, true≢false}
 use Rattle.record.specs.Entries.{Entry}
 use Rattle.reader.specs.Kinds.{kind_of}
@@ -96,15 +96,8 @@ pub record Turning (l m : Log Entry) (f g : Log Fault) (all rest : List Event) (
   pub going : Going l m f g all rest count
   pub is : found ≡ counted count
 
-pub turn_begun : {l : Log Entry} {f : Log Fault} {all : List Event} → Turning l l f f all all 0
-turn_begun = record { count = 0; going = begun; is = refl }
-
 pub turn_renamed : {l m : Log Entry} {f g : Log Fault} {all rest other : List Event} {found : ℕ} → Turning l m f g all rest found → rest ≡ other → Turning l m f g all other found
 turn_renamed T e = record { count = T.count; going = renamed T.going e; is = T.is }
-
--- nothing more is counted
-pub counts_none : (k : ℕ) → k < 2 ^ 64 → k ≡ counted (k + 0)
-counts_none k h = omega arith
 
 counts_on : (k n : ℕ) → counted (counted k + n) ≡ counted (k + n)
 counts_on k n = omega arith
@@ -158,13 +151,3 @@ read_from e D en ef = record {
   number = en ∙ D.answers;
   all = ef ∙ ap counted D.seen;
 }
-
-pub turn_ended : {l m : Log Entry} {f g : Log Fault} {all : List Event} {found : ℕ} (e : Ending) → Turning l m f g all [] found → ending_number e ≡ 0 → Read l m f g all e found
-turn_ended e T en = read_from e (ended T.going) en T.is
-
--- the end of a text
-pub to_come_end : (S : Setting) (e : ℕ) (σ : Stage) → to_come S e σ [] ≡ closing σ e ++ []
-to_come_end S e σ = refl
-
-pub records_end : (σ : Stage) (p : ℕ) → records (closing σ p) ≡ []
-records_end σ p = records-closing σ p

@@ -1,13 +1,13 @@
 use Rattle.std.proofs.Common.{List, length, sym, refl, ap, ◌∙◌, subst}
 use Rattle.daylight.specs.Settings.{told}
-use Rattle.reader.specs.Lines.{Piece, line_piece, lines_ahead, lines}
+use Rattle.reader.specs.Lines.{Piece, line_piece, lines_ahead}
 use Rattle.sink.specs.Tables.{grown_ties}
 use Rattle.stages.specs.Machines.{stage_of, Tied}
-use Rattle.stages.specs.Stages.{next, came, closing}
+use Rattle.stages.specs.Stages.{next, came}
 use Rattle.shef.specs.Texts.{to_come, stretches, cut}
 use Rattle.shef.specs.Decodes.{ends_here}
-use Rattle.shef.specs.declared.decode.Ending.TheVariants.{Whole, NoRoom}
-use Rattle.shef.proofs.Whole.{behind_line, to_come-line, to_come_skipping, to_come_end, records_here, records_end, turn_begun, turn_renamed, turn_refused, turn_passed, turn_stopped, turn_full, turn_ended, read_from}
+use Rattle.shef.specs.declared.decode.Ending.TheVariants.{NoRoom}
+use Rattle.shef.proofs.Whole.{behind_line, to_come-line, to_come_skipping, records_here, turn_renamed, turn_refused, turn_passed, turn_stopped, turn_full, read_from}
 use Rattle.shef.proofs.decode.read_text.Goals as goal
 
 pub loop-line-preserved-in-Ok : goal.loop-line-preserved-in-Ok
@@ -27,8 +27,8 @@ loop-line-preserved-in-Ok g c =
       c.close_before.ensures.lent ∙ c.loop-line.invariant.4,
     )
 
-pub returns-in-NoRoom : goal.returns-in-NoRoom
-returns-in-NoRoom g c =
+pub returns-in-NoRoom-clause-done : goal.returns-in-NoRoom-clause-done
+returns-in-NoRoom-clause-done g c =
     let S = told g.R.Rule.daylight c.args.setting.now in
     let e = length c.args.text.now in
     let σ = stage_of c.loop-line.machine in
@@ -38,14 +38,13 @@ returns-in-NoRoom g c =
     let tie = subst (λ (x : List Piece). Tied c.loop-line.machine x) gave.next c.loop-line.invariant.1 in
     let here = turn_refused (ends_here σ l) (records_here σ l) (turn_renamed c.loop-line.invariant.0 (ap (to_come S e σ) gave.next ∙ to_come-line S e σ l ls)) c.close_before.ensures.list c.close_before.ensures.count in
     let full = turn_full (came S (next S σ l)) (behind_line S e ls) (stretches S e (cut ls).1) c.in-Err.fault here (c.in-Err.ensures.cases tie) c.in-NoRoom.is c.report.ensures.list c.report.ensures.count in
-    record {
-      done = read_from NoRoom full.1 refl full.2;
-      frame = (
-        g.S.Sink.ties.goes _ _ _ c.loop-line.invariant.2 c.take_line.ensures.frame,
-        grown_ties.goes _ _ _ (grown_ties.goes _ _ _ c.loop-line.invariant.3 c.close_before.ensures.frame) c.report.ensures.frame,
-      );
-      lent = c.report.ensures.lent ∙ (c.close_before.ensures.lent ∙ c.loop-line.invariant.4);
-    }
+    read_from NoRoom full.1 refl full.2
+
+pub returns-in-NoRoom-clause-frame : goal.returns-in-NoRoom-clause-frame
+returns-in-NoRoom-clause-frame g c = (
+  g.S.Sink.ties.goes _ _ _ c.loop-line.invariant.2 c.take_line.ensures.frame,
+  grown_ties.goes _ _ _ (grown_ties.goes _ _ _ c.loop-line.invariant.3 c.close_before.ensures.frame) c.report.ensures.frame,
+)
 
 pub loop-line-preserved : goal.loop-line-preserved
 loop-line-preserved g c =
@@ -65,14 +64,5 @@ loop-line-preserved g c =
       c.report.ensures.lent ∙ (c.close_before.ensures.lent ∙ c.loop-line.invariant.4),
     )
 
-pub returns : goal.returns
-returns g c =
-    let S = told g.R.Rule.daylight c.args.setting.now in
-    let e = length c.args.text.now in
-    let σ = stage_of c.loop-line.machine in
-    let end = turn_refused (closing σ e) (records_end σ e) (turn_renamed c.loop-line.invariant.0 (ap (to_come S e σ) c.in_default.ensures.1.0 ∙ to_come_end S e σ)) c.close_at.ensures.list c.close_at.ensures.count in
-    record {
-      done = turn_ended Whole end refl;
-      frame = (c.loop-line.invariant.2, grown_ties.goes _ _ _ c.loop-line.invariant.3 c.close_at.ensures.frame);
-      lent = c.close_at.ensures.lent ∙ c.loop-line.invariant.4;
-    }
+pub returns-clause-frame : goal.returns-clause-frame
+returns-clause-frame g c = (c.loop-line.invariant.2, grown_ties.goes _ _ _ c.loop-line.invariant.3 c.close_at.ensures.frame)
