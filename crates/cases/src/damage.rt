@@ -14,7 +14,8 @@ const SIGNS: [u8; 24] = [
     b'H', b'T', b'V', b'a', 10, 13, 9, 200,
 ];
 
-// The harm done to the byte at a place in a round: another byte each round after the first two.
+// The harm done to the byte at a place in a round: another byte each round after the first two. A round is a number and no kind, since
+// from the third on only the byte changes with it.
 pub fn harm_at(place: usize, round: usize) -> Harm {
     match round {
         0 => Harm::Lost,

@@ -15,6 +15,7 @@ use std::alloc::{AllocError, Global};
 #[derive(Drop)]
 pub struct Case {
     pub name: String,
+    // Three numbers and no date, since this crate leans on neither decoder.
     pub year: u16,
     pub month: u8,
     pub day: u8,

@@ -107,6 +107,7 @@ fn take_items(reader: &mut Reader, mut message: Message, items: Part<'_>) -> Res
     Ok(())
 }
 
+// Here and below the bytes are kept beside the part, which is lent from them.
 fn take_opening(reader: &mut Reader, line: Part<'_>, letters: Letters) -> Result<(), Trouble> {
     let bytes = readable(reader.log.heap, line)?;
     let text = Part::new(bytes.as_slice(), line.place);

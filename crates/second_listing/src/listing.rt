@@ -54,7 +54,7 @@ pub struct Entry {
     pub source: Name,
 }
 
-// A time as ccyymmddhhnn.
+// A time as ccyymmddhhnn. A function and no Display, as the two below: it is shown so only in a listing line.
 fn minutes(heap: Global, at: Reading) -> Result<String, AllocError> {
     let year = at.date.year;
     let month = at.date.month;

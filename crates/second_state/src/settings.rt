@@ -112,6 +112,7 @@ fn read_groups(rest: &[u8], first: Group, today: Day) -> Option<Groups> {
 fn read_move(rest: &[u8]) -> Option<Move> {
     let (letter, signed) = rest.split_first()?;
     let unit = Unit::named(*letter)?;
+    // The sign is put aside while the digits are read, as both signs share what follows.
     let (back, digits) = match signed {
         [b'-', digits @ ..] => (true, digits),
         [b'+', digits @ ..] => (false, digits),

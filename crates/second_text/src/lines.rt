@@ -105,6 +105,7 @@ pub fn is_unfit(line: &[u8]) -> bool {
 // The line with its comments turned to blanks.
 pub fn uncommented(heap: Global, line: &[u8]) -> Result<Vec<u8>, AllocError> {
     let mut out = Vec::new(heap);
+    // A flag, since whether a byte is inside hangs on the colons before it.
     let mut inside = false;
     for b in line {
         let mark = *b == b':';

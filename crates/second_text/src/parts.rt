@@ -61,7 +61,7 @@ impl<'a> Part<'a> {
     }
 }
 
-// How many blanks a text begins with.
+// How many blanks a text begins with. A count of its own and no `leading`, which would look each byte up in a list of one.
 fn blanks(text: &[u8]) -> usize
     ensures value { result ≡ blanks_before text.now }
     ensures bound { result ≤ length text.now }

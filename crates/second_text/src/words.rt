@@ -15,6 +15,7 @@ pub fn continued(line: Part<'_>, letters: Letters, number: u16) -> Option<Part<'
     let (own, behind) = lettered(line)?;
     let (given, before_items) = match behind.bytes {
         [ones @ b'0'..=b'9', b' ', ..] => (u16::from(*ones - b'0'), 2),
+        // Written out, since this crate leans on no other.
         [tens @ b'0'..=b'9', ones @ b'0'..=b'9', b' ', ..] => {
             (u16::from(*tens - b'0') * 10 + u16::from(*ones - b'0'), 3)
         }

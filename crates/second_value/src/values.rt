@@ -42,6 +42,7 @@ fn digits(text: &[u8]) -> (&[u8], &[u8]) {
 
 // A number in ten-thousandths with its qualifier.
 fn read_number(text: &[u8]) -> Option<(i64, u8)> {
+    // The sign is put aside while the digits are read, as both signs share what follows.
     let (negative, unsigned) = match text {
         [b'-', unsigned @ ..] => (true, unsigned),
         [b'+', unsigned @ ..] => (false, unsigned),

@@ -100,6 +100,7 @@ pub fn try_list<P: Peer>(rt: &HostRuntime, peer: &P, list: &str) -> anyhow::Resu
     let mut whole = Tally::default();
     let mut harmed = Tally::default();
     let cases = cases::read_list(rt.alloc(), list)?;
+    // A place and no zip with the cases behind, which would drop the last case.
     for (i, case) in cases.iter().enumerate() {
         let behind: &[u8] = match cases.get(i.saturating_add(1)) {
             Some(next) => next.text.as_slice(),
