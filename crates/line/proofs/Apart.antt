@@ -6,13 +6,16 @@ use Rattle.std.specs.Option.{option_map}
 use Rattle.calendar.specs.Dates.{message_day}
 use Rattle.instants.specs.Utc.{utc_time, utc_minute}
 use Rattle.calendar.specs.declared.date.Date.{Date}
+use Rattle.record.specs.Entries.{entry}
 use Rattle.record.specs.Stations.{station_text}
+use Rattle.record.proofs.Same.{one_record}
+use Rattle.record.proofs.Valid.{valid}
 use Rattle.record.specs.declared.series.Series.{Series}
 use Rattle.record.specs.declared.series.Series.TheVariants.{Single, First, Later}
 use Rattle.values.specs.Writing.{digits}
 use Rattle.values.proofs.Back.{apart}
 use Rattle.line.specs.Lines.{date_text, second_text, minute_text, or_blank, revision_sign, series_sign, line}
-use Rattle.line.specs.Laws.{TellsApart}
+use Rattle.line.specs.Laws.{TellsApart, TellsRecordsApart}
 use Rattle.line.proofs.Back.{Says, four_back, date_back, second_back, minute_back, message_writable}
 use Rattle.line.proofs.Cut.{columns}
 use Rattle.line.proofs.Durations.{duration_small}
@@ -118,3 +121,6 @@ tells_apart d e v w h =
       series = series i;
       source = source i;
     }
+
+pub tells_records_apart : TellsRecordsApart
+tells_records_apart r s h = one_record r s (tells_apart (entry r) (entry s) (valid r) (valid s) h)

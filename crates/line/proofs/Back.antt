@@ -1,9 +1,11 @@
 -- Numbers and dates that are written are read back.
-use Rattle.std.proofs.Common.{◌≡◌, ℕ, ◌+◌, ◌*◌, ◌/◌, ◌%◌, ◌<◌, ◌≤◌, Bool, true, false, cond, ◌&&◌, ◌||◌, eqb, leb, List, [], ◌∷◌, ◌++◌, get_or, Some, None, Option, ap, ◌∙◌, arith}
-use Rattle.std.proofs.lemmas.Bool.{cond-true, and_parts}
+use Rattle.std.proofs.Common.{◌≡◌, ℕ, ◌+◌, ◌*◌, ◌/◌, ◌%◌, ◌<◌, Bool, true, cond, List, [], ◌∷◌, ◌++◌, get_or, Some, None, Option, ap, ◌∙◌, arith}
+use Rattle.std.proofs.lemmas.Bool.{cond-true}
 use Rattle.values.specs.Writing.{digits}
-use Rattle.calendar.specs.Dates.{message_day, real, month_length, leap}
+use Rattle.calendar.specs.Dates.{message_day}
+use Rattle.calendar.proofs.Counting.{month_long}
 use Rattle.calendar.proofs.Dates.{real_parts}
+use Rattle.calendar.proofs.Nearest.{message_day_lem}
 use Rattle.calendar.specs.declared.date.Date.{Date}
 use Rattle.line.specs.Lines.{Writable, date_text, second_text, minute_text}
 
@@ -57,22 +59,11 @@ minute_back column t h m small e sh sm =
     let b : m ≡ n % 60 = at_pair column 10 11 m (n % 60) sm (omega arith) (at 10) (at 11) in
     omega arith
 
-at_most : (b : Bool) (m n k : ℕ) → m ≤ k → n ≤ k → cond b m n ≤ k
-at_most true m n k p q = p
-at_most false m n k p q = q
-
-month_most : (y m : ℕ) → month_length y m ≤ 31
-unfolding month_length
-month_most y m =
-    at_most (eqb m 2) _ _ 31 (at_most (leap y) 29 28 31 (omega arith) (omega arith))
-    (at_most (eqb m 4 || eqb m 6 || eqb m 9 || eqb m 11) 30 _ 31 (omega arith) (at_most (leb 1 m && leb m 12) 31 0 31 (omega arith) (omega arith)))
-
 -- a day of the years of messages can be shown
 pub message_writable : (d : Date) → message_day d ≡ true → Writable d
-unfolding message_day
 message_writable d e =
-    let r = real_parts d (and_parts _ (real d) e).1 in
-    (omega (arith, r.year), omega (arith, r.month_high), omega (arith, r.day_high, month_most d.year d.month))
+    let r = real_parts d (message_day_lem d e).2 in
+    (omega (arith, r.year), omega (arith, r.month_high), omega (arith, r.day_high, month_long d.year d.month))
 
 -- what a checked constructor makes of a date and a number that are known
 pub made : (ok : Date → ℕ → Bool) (d d' : Date) (s s' : ℕ) → d ≡ d' → s ≡ s' → ok d' s' ≡ true → cond {A = Option (Date × ℕ)} (ok d s) (Some (d, s)) None ≡ Some (d', s')

@@ -1,7 +1,9 @@
 -- What a checked code tells of its check.
-use Rattle.std.proofs.Common.{◌≡◌, ℕ, Bool, true, false, cond, ◌&&◌, List, Some, None, sym, refl, ap, ◌∙◌, subst}
-use Rattle.std.proofs.lemmas.Bool.{cond-true, cond-false}
+use Rattle.std.proofs.Common.{◌≡◌, ℕ, Bool, true, false, cond, ◌&&◌, eqb, List, length, get_or, is_some, Some, None, sym, refl, ap, ◌∙◌, subst}
+use Rattle.std.proofs.lemmas.Bool.{cond-true, cond-false, and_parts}
 use Rattle.std.proofs.lemmas.Option.{cond_some}
+use Rattle.quantity.specs.Elements.{element_of}
+use Rattle.quantity.specs.declared.code.Code.{Code}
 use Rattle.quantity.specs.Codes.{full_code, checked_code, duration_fits}
 use Rattle.quantity.specs.Parameters.{parameter_from}
 
@@ -24,3 +26,7 @@ module _ (signs : List ℕ) (n : ℕ) where
       let p = cond_some (full_code signs) signs code (sym e) in
       let u : duration_fits signs n ≡ false = subst (λ cs. duration_fits cs n ≡ false) (sym p.1) t in
       sym (cond-false _ _ _ (ap (λ b. b && duration_fits signs n) p.0 ∙ u))
+
+-- a full code has an element
+pub element_known : (c : Code) → is_some (element_of (get_or c.signs 0 0) (get_or c.signs 1 0)) ≡ true
+element_known c = (and_parts (is_some (element_of (get_or c.signs 0 0) (get_or c.signs 1 0))) _ (and_parts (eqb (length c.signs) 7) _ c.ok).1).0

@@ -44,6 +44,14 @@ elements =
     row 82 73 1 1 0 68 refl ∷  -- RI
     []
 
+-- an element's row in the table
+abbrev pub row_of : Element → ℕ × ℕ × ℕ × ℕ × ℕ × ℕ
+row_of e = (e.first, e.second, e.numerator, e.denominator, e.offset, e.duration)
+
+-- whether a row has these letters
+abbrev pub row_named : ℕ → ℕ → ℕ × ℕ × ℕ × ℕ × ℕ × ℕ → Bool
+row_named a b r = r.0 == a && r.1 == b
+
 abbrev pub is_named : ℕ → ℕ → Element → Bool
 is_named a b e = e.first == a && e.second == b
 

@@ -1,10 +1,12 @@
 // Parameter codes: how two to seven signs are completed and judged.
-ghost use Rattle.std.specs.Prelude.{◌≡◌, slice_index_or};
+ghost use Rattle.std.specs.Prelude.{◌≡◌, Some, slice_index, slice_index_or};
 ghost use Rattle.std.specs.Option.{option_map};
+ghost use Rattle.quantity.specs.Elements.{element_of};
 ghost use Rattle.quantity.specs.Codes.{is_type, full_code, unless_z, checked_code, code_of};
 
 use crate::code::Code;
 use crate::durations::is_duration;
+use crate::element::Element;
 use crate::elements::element_of;
 use text::{is_capital, is_sign};
 
@@ -67,4 +69,14 @@ pub fn code_of(code: &[u8]) -> Option<Code>
         sign_at(code, 5),
         sign_at(code, 6),
     ])
+}
+
+impl Code {
+    // The element that its two letters name.
+    #[tactic(auto, using(crate::proofs::Checks::element_known))]
+    pub fn element(self) -> Element
+        ensures { element_of (slice_index self.signs 0) (slice_index self.signs 1) ≡ Some result }
+    {
+        element_of(self.signs[0], self.signs[1]).unwrap()
+    }
 }

@@ -23,3 +23,7 @@ pub record Valid (e : Entry) : Type 0 where
 -- no record has another entry
 abbrev pub RecordsValid : Type 0
 RecordsValid = (r : Record) → Valid (entry r)
+
+-- and no two records have the same entry
+abbrev pub OneRecord : Type 0
+OneRecord = (r s : Record) → entry r ≡ entry s → r ≡ s

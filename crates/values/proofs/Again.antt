@@ -1,4 +1,4 @@
--- What was written is read again.
+-- An amount is read with its qualifier and without, and so what was written is read again.
 use Rattle.std.proofs.Common.{◌≡◌, ℕ, ◌-◌, ◌<◌, true, false, ◌&&◌, ◌||◌, eqb, List, [], ◌∷◌, ◌++◌, length, get_or, take, ℤ, Some, None, Ok, Option, refl, ap, ◌∙◌, subst, append-nil, arith, length-append}
 use Rattle.std.specs.List.{AllByRecursion}
 use Rattle.std.specs.Str.{bytes_eq}
@@ -12,10 +12,12 @@ use Rattle.quantity.specs.declared.units.Units.{Units}
 use Rattle.quantity.specs.declared.units.Units.TheVariants.{English}
 use Rattle.quantity.specs.Values.{stands_for}
 use Rattle.values.specs.Numbers.{amount_of}
+use Rattle.values.specs.Parts.{Writes}
 use Rattle.values.specs.Reading.{last_of, qualifier_of, number_of, value_in, qualified_by, amount_read, read_for}
 use Rattle.values.specs.Writing.{figure}
 use Rattle.values.specs.Laws.{Held, ReadsBack, ReadsAlone}
-use Rattle.values.proofs.Back.{Mark, figure-marks, some-figure, trimmed, small, known, amount-figure}
+use Rattle.values.proofs.Parts.{Mark, marks_written, some_written, writes_says}
+use Rattle.values.proofs.Back.{figure_writes, trimmed, small, known}
 
 front : (cs ys : List ℕ) → AllByRecursion Mark cs → 0 < length cs → Mark (get_or (cs ++ ys) 0 0)
 front [] ys h some = absurd (omega arith)
@@ -34,9 +36,6 @@ value_back : (e : Element) (v : Option ℤ) → Held v → value_in e English (s
 value_back e None h = refl
 value_back e (Some z) h = cond-false _ _ _ (known z h) ∙ cond-false _ _ _ (known z h) ∙ cond-true _ _ _ h
 
-number_back : (e : Element) (v : Option ℤ) (q : ℕ) → Held v → amount_read e English q (amount_of (figure (stands_for v))) ≡ Ok (v, q)
-number_back e v q h = ap (amount_read e English q) (amount-figure (stands_for v) (small v h)) ∙ ap (qualified_by q) (value_back e v h)
-
 module _ (xs : List ℕ) (q : ℕ) (big : capital q ≡ true) where
   at_end : length (xs ++ q ∷ []) - 1 ≡ length xs
   at_end = let l = length-append xs (q ∷ []) in omega arith
@@ -53,24 +52,33 @@ module _ (xs : List ℕ) (q : ℕ) (big : capital q ≡ true) where
   pub number_before : number_of (xs ++ q ∷ []) ≡ xs
   number_before = cond-true _ _ _ capital_last ∙ ap (λ k. take k (xs ++ q ∷ [])) at_end ∙ take_at xs (q ∷ []) (length xs) refl
 
-pub reads_back : ReadsBack
-reads_back e v q h big =
-    let f : List ℕ = figure (stands_for v) in
-    ap (λ l. read_for e English (l ++ q ∷ [])) (trimmed v) ∙ as_amount e English (f ++ q ∷ []) (front f (q ∷ []) (figure-marks (stands_for v)) (some-figure (stands_for v)))
-    ∙ ap (λ k. amount_read e English k (amount_of (number_of (f ++ q ∷ [])))) (qualifier_behind f q big) ∙ ap (λ l. amount_read e English q (amount_of l)) (number_before f q big)
-    ∙ number_back e v q h
-
 no_capital : (xs : List ℕ) → AllByRecursion Mark xs → 0 < length xs → capital (last_of xs) ≡ false
 no_capital xs h some =
     let m : Mark (last_of xs) = All-get_or Mark xs (length xs - 1) 0 (omega arith) h in
     grind (arith, nat_tests)
 
+module _ (e : Element) (u : Units) (text : List ℕ) (z : ℤ) (w : Writes text z) where
+  pub read_qualified : (q : ℕ) → capital q ≡ true → read_for e u (text ++ q ∷ []) ≡ qualified_by q (value_in e u z)
+  read_qualified q big =
+      as_amount e u (text ++ q ∷ []) (front text (q ∷ []) (marks_written text z w) (some_written text z w))
+      ∙ ap (λ k. amount_read e u k (amount_of (number_of (text ++ q ∷ [])))) (qualifier_behind text q big) ∙ ap (λ l. amount_read e u q (amount_of l)) (number_before text q big)
+      ∙ ap (amount_read e u q) (writes_says text z w)
+
+  pub read_alone : read_for e u text ≡ qualified_by 90 (value_in e u z)
+  read_alone =
+      let marks = marks_written text z w in
+      let some = some_written text z w in
+      let low = no_capital text marks some in
+      as_amount e u text (subst (λ l. Mark (get_or l 0 0)) (append-nil text) (front text [] marks some))
+      ∙ ap (λ k. amount_read e u k (amount_of (number_of text))) (cond-false _ _ _ low) ∙ ap (λ l. amount_read e u 90 (amount_of l)) (cond-false _ _ _ low)
+      ∙ ap (amount_read e u 90) (writes_says text z w)
+
+pub reads_back : ReadsBack
+reads_back e v q h big =
+    let z : ℤ = stands_for v in
+    ap (λ l. read_for e English (l ++ q ∷ [])) (trimmed v) ∙ read_qualified e English (figure z) z (figure_writes z (small v h)) q big ∙ ap (qualified_by q) (value_back e v h)
+
 pub reads_alone : ReadsAlone
 reads_alone e v h =
-    let f : List ℕ = figure (stands_for v) in
-    let marks = figure-marks (stands_for v) in
-    let some = some-figure (stands_for v) in
-    let low = no_capital f marks some in
-    ap (read_for e English) (trimmed v) ∙ as_amount e English f (subst (λ l. Mark (get_or l 0 0)) (append-nil f) (front f [] marks some))
-    ∙ ap (λ k. amount_read e English k (amount_of (number_of f))) (cond-false _ _ _ low) ∙ ap (λ l. amount_read e English 90 (amount_of l)) (cond-false _ _ _ low)
-    ∙ number_back e v 90 h
+    let z : ℤ = stands_for v in
+    ap (read_for e English) (trimmed v) ∙ read_alone e English (figure z) z (figure_writes z (small v h)) ∙ ap (qualified_by 90) (value_back e v h)

@@ -1,61 +1,68 @@
 -- A value that is written is read back.
-use Rattle.std.proofs.Common.{◌≡◌, ℕ, suc, ◌+◌, ◌-◌, ◌/◌, ◌%◌, ◌^◌, ◌<◌, ◌≤◌, Bool, true, false, cond, not, eqb, ltb, List, [], ◌∷◌, ◌++◌, length, replicate, ℤ, pos, negsuc, nat_abs, Some, None, Option, sym, refl, ap, ◌∙◌, subst, arith, lit<, length-append}
+use Rattle.std.proofs.Common.{◌≡◌, ℕ, suc, ◌-◌, ◌/◌, ◌%◌, ◌^◌, ◌<◌, ◌≤◌, Bool, true, false, cond, not, eqb, ltb, List, [], ◌∷◌, length, replicate, ℤ, pos, negsuc, nat_abs, Some, None, Option, sym, refl, ap, ◌∙◌, subst, arith, lit<, length-append}
 use lib.ListN.{length-replicate}
-use Rattle.std.specs.Option.{option_map}
 use Rattle.std.specs.List.{AllByRecursion}
-use Rattle.std.proofs.ByRecursion.{All-append, All-weaker}
-use Rattle.std.proofs.lemmas.Bool.{cond-true, cond-false, lt-ltb, ltb-true, ne_eqb, and_parts}
+use Rattle.std.proofs.ByRecursion.{All-append}
+use Rattle.std.proofs.lemmas.Bool.{cond-false, ltb-true, ne_eqb, and_parts}
 use Rattle.quantity.specs.Amounts.{is_absent, holdable}
 use Rattle.quantity.specs.Values.{stands_for}
-use Rattle.values.specs.Numbers.{numeral, ten_thousandths, behind_point, size_from, size_of, negated, amount_of}
+use Rattle.values.specs.Numbers.{amount_of}
+use Rattle.values.specs.Parts.{number, size, Digits, none, minus, signed, Writes}
 use Rattle.values.specs.Writing.{digits, plain, size_text, figure, pad_left, figure_of, written, trim_start}
 use Rattle.values.specs.Laws.{Held, Apart, Wide}
-use Rattle.values.proofs.Digit.{Digit, digits_are, digits_say, plain_are, plain_say, plain_long, plain-some, trim_start-pad, numeral-digits, before_digits, behind-digits}
-
--- a sign of a figure: a digit, a minus or a point
-abbrev pub Mark : ℕ → Type 0
-Mark c = (44 < c) × (c < 58)
-
-digit_mark : (c : ℕ) → Digit c → Mark c
-digit_mark c h = (omega arith, h.1)
+use Rattle.values.proofs.Digit.{digits_are, digits_say, plain_are, plain_say, plain_long, trim_start-pad, all_digits_lem}
+use Rattle.values.proofs.Parts.{Mark, digit_marks, number_said, writes_says}
 
 size_marks : (n : ℕ) → AllByRecursion Mark (size_text n)
 size_marks n =
-    All-append Mark (plain 8 (n / 10000)) (46 ∷ digits 4 (n % 10000)) (All-weaker Digit Mark digit_mark _ (plain_are 8 (n / 10000)))
-    ((omega arith, omega arith), All-weaker Digit Mark digit_mark (digits 4 (n % 10000)) (digits_are 4 (n % 10000)))
+    All-append Mark (plain 8 (n / 10000)) (46 ∷ digits 4 (n % 10000)) (digit_marks _ (plain_are 8 (n / 10000)))
+    ((omega arith, omega arith), digit_marks (digits 4 (n % 10000)) (digits_are 4 (n % 10000)))
 
 pub figure-marks : (z : ℤ) → AllByRecursion Mark (figure z)
 figure-marks (pos n) = size_marks n
 figure-marks (negsuc n) = ((omega arith, omega arith), size_marks (suc n))
 
-pub size_back : (n : ℕ) → n < 10 ^ 12 → size_of (size_text n) ≡ Some n
-size_back n h =
-    let m : ℕ = n / 10000 in
-    let r : ℕ = n % 10000 in
-    let ds : List ℕ = plain 8 m in
-    let fs : List ℕ = digits 4 r in
-    ap (λ l. size_from l (behind_point (size_text n))) (before_digits ds fs (plain_are 8 m)) ∙ ap (size_from ds) (behind-digits ds fs (plain_are 8 m))
-    ∙ cond-true _ _ _ (lt-ltb 0 (length ds + 4) (omega arith))
-    ∙ ap (λ o. ten_thousandths 4 o (numeral 4 fs)) (numeral-digits 8 ds (plain_are 8 m) (plain_long 8 m) ∙ ap Some (plain_say 8 m (omega arith)))
-    ∙ ap (ten_thousandths 4 (Some m)) (numeral-digits 4 fs (digits_are 4 r) (omega arith) ∙ ap Some (digits_say 4 0 r (omega arith)))
-    ∙ ap Some (omega arith)
+pub four_digits : (r : ℕ) → r < 10 ^ 4 → number (digits 4 r) ≡ r
+four_digits r h = sym (number_said (digits 4 r)) ∙ digits_say 4 0 r h ∙ omega arith
 
-unsigned : (ds cs : List ℕ) → AllByRecursion Digit ds → 0 < length ds → amount_of (ds ++ cs) ≡ option_map pos (size_of (ds ++ cs))
-unsigned [] cs h l = absurd (omega arith)
-unsigned (d ∷ ds) cs h l = cond-false _ _ _ (ne_eqb d 45 (λ e. omega arith)) ∙ cond-false _ _ _ (ne_eqb d 43 (λ e. omega arith))
+size_figure : (n : ℕ) → n < 10 ^ 12 → size (plain 8 (n / 10000)) (digits 4 (n % 10000)) ≡ n
+size_figure n h =
+    let whole : number (plain 8 (n / 10000)) ≡ n / 10000 = sym (number_said (plain 8 (n / 10000))) ∙ plain_say 8 (n / 10000) (omega arith) in
+    let rest : number (digits 4 (n % 10000)) ≡ n % 10000 = four_digits (n % 10000) (omega arith) in
+    omega arith
+
+pub plain_digits : (m : ℕ) → Digits 8 (plain 8 m)
+plain_digits m = (all_digits_lem (plain 8 m) (plain_are 8 m), plain_long 8 m)
+
+pub last_digits : (r : ℕ) → Digits 4 (digits 4 r)
+last_digits r = (all_digits_lem (digits 4 r) (digits_are 4 r), omega arith)
+
+pub figure_writes : (z : ℤ) → nat_abs z < 10 ^ 12 → Writes (figure z) z
+figure_writes (pos n) h = record {
+  sign = none;
+  whole = plain 8 (n / 10000);
+  fraction = Some (digits 4 (n % 10000));
+  parts = refl;
+  digits = plain_digits (n / 10000);
+  decimals = last_digits (n % 10000);
+  some = omega arith;
+  says = ap pos (sym (size_figure n h));
+}
+figure_writes (negsuc n) h = record {
+  sign = minus;
+  whole = plain 8 (suc n / 10000);
+  fraction = Some (digits 4 (suc n % 10000));
+  parts = refl;
+  digits = plain_digits (suc n / 10000);
+  decimals = last_digits (suc n % 10000);
+  some = omega arith;
+  says = ap (signed minus) (sym (size_figure (suc n) h));
+}
 
 pub amount-figure : (z : ℤ) → nat_abs z < 10 ^ 12 → amount_of (figure z) ≡ Some z
-amount-figure (pos n) h = unsigned (plain 8 (n / 10000)) _ (plain_are 8 (n / 10000)) (plain-some 7 (n / 10000)) ∙ ap (option_map pos) (size_back n h)
-amount-figure (negsuc n) h = ap (option_map negated) (size_back (suc n) h)
+amount-figure z h = writes_says (figure z) z (figure_writes z h)
 
 -- a figure is read as it stands, so it is its own trimmed text and no two are alike
-some_size : (n : ℕ) → 0 < length (size_text n)
-some_size n = simp length-append (omega arith)
-
-pub some-figure : (z : ℤ) → 0 < length (figure z)
-some-figure (pos n) = some_size n
-some-figure (negsuc n) = omega arith
-
 trim_start-marks : (xs : List ℕ) → AllByRecursion Mark xs → trim_start xs ≡ xs
 trim_start-marks [] h = refl
 trim_start-marks (c ∷ cs) h = cond-false (eqb c 32) _ (c ∷ cs) (ne_eqb c 32 (λ e. omega arith))

@@ -1,12 +1,13 @@
 -- Digits, and what trimming and reading do to them.
-use Rattle.std.proofs.Common.{◌≡◌, ℕ, zero, suc, ◌+◌, ◌-◌, ◌*◌, ◌/◌, ◌%◌, ◌^◌, ◌<◌, ◌≤◌, true, ◌&&◌, ltb, leb, List, [], ◌∷◌, ◌++◌, length, drop, set, replicate, Some, sym, refl, ap, ◌∙◌, append_assoc, mul_assoc, pow-suc, arith, length-append}
+use Rattle.std.proofs.Common.{◌≡◌, ℕ, zero, suc, ◌+◌, ◌-◌, ◌*◌, ◌/◌, ◌%◌, ◌^◌, ◌<◌, ◌≤◌, true, ◌&&◌, ltb, List, [], ◌∷◌, ◌++◌, length, drop, set, replicate, Some, None, Option, sym, refl, ap, ◌∙◌, append_assoc, mul_assoc, pow-suc, arith, length-append}
 use Rattle.std.specs.List.{AllByRecursion}
 use Rattle.std.proofs.ByRecursion.{All-push}
 use Rattle.std.proofs.lemmas.List.{drop-set}
-use Rattle.std.proofs.lemmas.Bool.{cond-true, cond-false, cond_both, ltb-true, ne_eqb}
+use Rattle.std.proofs.lemmas.Bool.{cond-false, cond_both, ltb-true, ne_eqb}
 use Rattle.std.proofs.lemmas.Bool.Decides.{nat_tests}
 use Rattle.text.specs.Signs.{digit}
-use Rattle.values.specs.Numbers.{all_digits, said, numeral, before_point, behind_point}
+use Rattle.values.specs.Numbers.{all_digits, said, before_point, behind_point}
+use Rattle.values.specs.Parts.{fraction_text, decimals_of}
 use Rattle.values.specs.Writing.{digits, plain, trim_start}
 
 abbrev pub Digit : ℕ → Type 0
@@ -56,9 +57,6 @@ pub plain_long : (k n : ℕ) → length (plain k n) ≤ k
 plain_long zero n = omega arith
 plain_long (suc k) n = cond_both (ltb n 10) _ _ (λ l. length l ≤ suc k) (λ e. omega arith) (λ e. simp length-append (omega (arith, plain_long k (n / 10))))
 
-pub plain-some : (k n : ℕ) → 0 < length (plain (suc k) n)
-plain-some k n = cond_both (ltb n 10) _ _ (λ l. 0 < length l) (λ e. omega arith) (λ e. simp length-append (omega arith))
-
 pub trim_start-pad : (n : ℕ) (xs : List ℕ) → trim_start (replicate n 32 ++ xs) ≡ trim_start xs
 trim_start-pad zero xs = refl
 trim_start-pad (suc n) xs = trim_start-pad n xs
@@ -67,15 +65,12 @@ pub all_digits_lem : (ds : List ℕ) → AllByRecursion Digit ds → all_digits 
 all_digits_lem [] h = refl
 all_digits_lem (d ∷ ds) h = let t : digit d ≡ true = grind (arith, nat_tests) in ap (λ b. b && all_digits ds) t ∙ all_digits_lem ds h.1
 
-pub numeral-digits : (most : ℕ) (ds : List ℕ) → AllByRecursion Digit ds → length ds ≤ most → numeral most ds ≡ Some (said 0 ds)
-numeral-digits most ds h l =
-    let b : leb (length ds) most ≡ true = grind (arith, nat_tests) in
-    cond-true _ _ _ (ap (λ t. t && leb (length ds) most) (all_digits_lem ds h) ∙ b)
+pub before_digits : (ds : List ℕ) (f : Option (List ℕ)) → AllByRecursion Digit ds → before_point (ds ++ fraction_text f) ≡ ds
+before_digits [] None h = refl
+before_digits [] (Some cs) h = refl
+before_digits (d ∷ ds) f h = cond-false _ _ _ (ne_eqb d 46 (λ e. omega arith)) ∙ ap (λ l. d ∷ l) (before_digits ds f h.1)
 
-pub before_digits : (ds cs : List ℕ) → AllByRecursion Digit ds → before_point (ds ++ 46 ∷ cs) ≡ ds
-before_digits [] cs h = refl
-before_digits (d ∷ ds) cs h = cond-false _ _ _ (ne_eqb d 46 (λ e. omega arith)) ∙ ap (λ l. d ∷ l) (before_digits ds cs h.1)
-
-pub behind-digits : (ds cs : List ℕ) → AllByRecursion Digit ds → behind_point (ds ++ 46 ∷ cs) ≡ cs
-behind-digits [] cs h = refl
-behind-digits (d ∷ ds) cs h = cond-false _ _ _ (ne_eqb d 46 (λ e. omega arith)) ∙ behind-digits ds cs h.1
+pub behind-digits : (ds : List ℕ) (f : Option (List ℕ)) → AllByRecursion Digit ds → behind_point (ds ++ fraction_text f) ≡ decimals_of f
+behind-digits [] None h = refl
+behind-digits [] (Some cs) h = refl
+behind-digits (d ∷ ds) f h = cond-false _ _ _ (ne_eqb d 46 (λ e. omega arith)) ∙ behind-digits ds f h.1

@@ -3,7 +3,10 @@ pub mod Signs
 pub mod Turns
 pub mod Columns
 pub mod Digit
+pub mod Parts
 pub mod Back
 pub mod Again
+pub mod Said
+pub mod Shown
 pub mod Strict
 pub mod Zeros

@@ -2,7 +2,8 @@
 use Rattle.std.proofs.Common.{◌≡◌, ℕ, zero, suc, ◌+◌, ◌-◌, ◌*◌, ◌/◌, ◌%◌, ◌<◌, ◌≤◌, ltb, ℤ, pos, negsuc, ◌-ℤ◌, ◌*ℤ◌, neg_ℤ, nat_abs, sym, refl, ap, ◌∙◌, ⊎_elim, mod-lt, mul_assoc, mul_comm, add-mul, mul-zero, mul-suc, arith}
 use native.Mathlib.Nat.{div-add-mod, div-eq_of_lt-le}
 use Rattle.std.proofs.lemmas.Bool.{cond_both, ltb-true, ltb-false, cases_lt}
-use Rattle.values.specs.Conversion.{nearest, rounded, off, Nearest, Rounds, RoundsOnly}
+use Rattle.values.specs.Conversion.{nearest, rounded, exact, off, Nearest, ConvertsToNearest, ConvertsOnly}
+use Rattle.values.proofs.Signs.{fraction}
 
 within : (den p : ℕ) → 0 < den → (2 * (den * nearest den p) ≤ 2 * p + den) × (2 * p < 2 * (den * nearest den p) + den)
 within den p some =
@@ -82,8 +83,9 @@ only_nearest den (negsuc p) (negsuc r) some h =
     let e : off den (negsuc p) (negsuc r) ≡ (den * suc r - suc p) + (suc p - den * suc r) = apart_below (den * suc r) (suc p) in
     ap (λ m. neg_ℤ (pos m)) (sym (only (suc p) den (suc r) some (omega (arith, h.near)) (strict (den * suc r) (suc p) den _ some e h.near h.tie)))
 
-pub rounds : Rounds
-rounds = is_nearest
+-- an element's denominator is not 0
+pub converts_to_nearest : ConvertsToNearest
+converts_to_nearest e a = is_nearest e.denominator (exact e a) (fraction e).1
 
-pub rounds_only : RoundsOnly
-rounds_only = only_nearest
+pub converts_only : ConvertsOnly
+converts_only e a b = only_nearest e.denominator (exact e a) b (fraction e).1

@@ -11,7 +11,7 @@ abbrev pub rounded : ℕ → ℤ → ℤ
 rounded den (pos p) = pos (nearest den p)
 rounded den (negsuc p) = neg_ℤ (pos (nearest den (suc p)))
 
--- the exact English amount, times the denominator
+-- the exact English amount, times the denominator, so that it is a whole number
 abbrev pub exact : Element → ℤ → ℤ
 exact e a = pos e.numerator *ℤ a +ℤ pos (e.offset * e.denominator)
 
@@ -27,10 +27,10 @@ pub record Nearest (den : ℕ) (p r : ℤ) : Type 0 where
   pub near : 2 * off den p r ≤ den
   pub tie : 2 * off den p r ≡ den → unsigned_abs p < den * unsigned_abs r
 
--- a fraction p / den rounded is the nearest whole number to it; a converted amount is the exact one, rounded so
-abbrev pub Rounds : Type 0
-Rounds = (den : ℕ) (p : ℤ) → 0 < den → Nearest den p (rounded den p)
+-- a converted amount is the whole number of ten-thousandths nearest to the exact amount, at a tie the larger in size
+abbrev pub ConvertsToNearest : Type 0
+ConvertsToNearest = (e : Element) (a : ℤ) → Nearest e.denominator (exact e a) (converted e a)
 
--- and it is the only one
-abbrev pub RoundsOnly : Type 0
-RoundsOnly = (den : ℕ) (p r : ℤ) → 0 < den → Nearest den p r → r ≡ rounded den p
+-- and no other number is
+abbrev pub ConvertsOnly : Type 0
+ConvertsOnly = (e : Element) (a b : ℤ) → Nearest e.denominator (exact e a) b → b ≡ converted e a

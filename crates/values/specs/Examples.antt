@@ -22,6 +22,9 @@ pub record Examples : Type 0 where
   -- 30480000 m are 100000000 feet, the first amount that is too large
   pub largest : read_value (codes "HGIRZZZ") Si (codes "30479999.9999") ≡ amount (pos 999999999997)
   pub too_large : read_value (codes "HGIRZZZ") Si (codes "30480000") ≡ Err TooLarge
+  -- the smallest amount, and the first one that is too far below zero, -10^12
+  pub smallest : read_value (codes "HGIRZZZ") English (codes "-99999999.9999") ≡ amount (negsuc 999999999998)
+  pub too_low : read_value (codes "HGIRZZZ") Si (codes "-30480000") ≡ Err TooLarge
   pub trace : read_value (codes "PPDRZZZ") Si (codes "T") ≡ amount (pos 10)
   pub no_trace : read_value (codes "HGIRZZZ") English (codes "T") ≡ Err Malformed
   pub estimated : read_value (codes "HGIRZZZ") English (codes "12.3456E") ≡ Ok (Some (pos 123456), 69)

@@ -2,6 +2,8 @@ pub mod Conversion
 pub mod Faults
 pub mod Numbers
 pub mod Reading
+pub mod Parts
+pub mod Forms
 pub mod Writing
 pub mod Laws
 pub mod Examples

@@ -1,11 +1,19 @@
-// Laws of values: conversion rounds to the nearest, and what is written reads back.
-ghost use Rattle.values.specs.Conversion.{Rounds, RoundsOnly};
+// Laws of values: what a text says, conversion to the nearest, and what is written and reads back.
+ghost use Rattle.values.specs.Conversion.{ConvertsToNearest, ConvertsOnly};
 ghost use Rattle.values.specs.Examples.{Examples};
-ghost use Rattle.values.specs.Laws.{ReadsBack, ReadsAlone, Apart, Wide};
+ghost use Rattle.values.specs.Forms.{ReadsWhatIsSaid};
+ghost use Rattle.values.specs.Laws.{ReadsBack, ReadsAlone, Apart, Wide, ShowsAmounts, ShowsMissing};
+ghost use Rattle.values.specs.Parts.{SaysWhatItWrites};
 
 pub fn conversion_laws()
-    ensures nearest { Rounds }
-    ensures only { RoundsOnly }
+    ensures nearest { ConvertsToNearest }
+    ensures only { ConvertsOnly }
+{}
+
+// What a text says as an amount, and as a value.
+pub fn reading_laws()
+    ensures amounts { SaysWhatItWrites }
+    ensures values { ReadsWhatIsSaid }
 {}
 
 pub fn writing_laws()
@@ -13,6 +21,8 @@ pub fn writing_laws()
     ensures alone { ReadsAlone }
     ensures apart { Apart }
     ensures wide { Wide }
+    ensures shows { ShowsAmounts }
+    ensures missing { ShowsMissing }
 {}
 
 pub fn value_examples()

@@ -10,7 +10,6 @@ use crate::reading::{Quantity, ValueFault};
 use quantity::amount::Amount;
 use quantity::code::Code;
 use quantity::element::Element;
-use quantity::elements::element_of;
 use quantity::make::value_from;
 use quantity::qualifier::Qualifier;
 use quantity::units::Units;
@@ -99,7 +98,5 @@ fn read_for(value: &[u8], element: Element, units: Units) -> Result<Quantity, Va
 pub fn read_value(value: &[u8], code: Code, units: Units) -> Result<Quantity, ValueFault>
     ensures { outcome result ≡ read_value code.signs units value.now }
 {
-    // a code's element is always in the table
-    let element = element_of(code.signs[0], code.signs[1]).ok_or(ValueFault::Malformed)?;
-    read_for(value, element, units)
+    read_for(value, code.element(), units)
 }

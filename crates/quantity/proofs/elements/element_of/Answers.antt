@@ -1,8 +1,11 @@
-use Rattle.std.proofs.Common.{refl, ap, ◌∙◌}
-use Rattle.quantity.specs.Elements.{elements, lookup}
-use Rattle.quantity.proofs.Rows.{same_rows}
+use Rattle.std.proofs.Common.{sym, ap, ◌∙◌}
+use Rattle.std.specs.List.{find}
+use Rattle.quantity.specs.Elements.{row_named}
+use Rattle.quantity.proofs.Rows.{found_fair, found_element}
 use Rattle.quantity.proofs.elements.element_of.Goals as goal
 
+pub invariant_of-result : goal.invariant_of-result
+invariant_of-result c = record { ok = found_fair c.args.first c.args.second _ (sym c.in_ok-first.was ∙ c.find_row.ensures ∙ ap (find (row_named c.args.first c.args.second)) c.table.ensures) }
+
 pub returns : goal.returns
-unfolding elements
-returns c = c.find_row.ensures ∙ ap (lookup c.args.first c.args.second) {x = c.as_slice.result.now} (c.as_slice.ensures ∙ same_rows _ elements refl)
+returns c = found_element c.args.first c.args.second _ (sym c.in_ok-first.was ∙ c.find_row.ensures ∙ ap (find (row_named c.args.first c.args.second)) c.table.ensures)
