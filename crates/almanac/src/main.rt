@@ -1,7 +1,7 @@
 // A table of dates and times, one line to a case.
 #![tactic(auto)]
 
-use calendar_table::{days, messages};
+use calendar_table::{days, messages, weekdays};
 use std::io;
 
 mod movements;
@@ -11,6 +11,7 @@ mod zones;
 
 fn main(rt: HostRuntime) -> io::Result<()> {
     days::all(&rt)?;
+    weekdays::all(&rt)?;
     movements::all(&rt)?;
     messages::all(&rt)?;
     rules::all(&rt)?;

@@ -2,13 +2,12 @@
 use crate::show;
 use calendar::date::Date;
 use daylight::law_rule::LawRule;
-use daylight::utc::to_utc;
-use daylight::zone::{is_saving, zone_of};
+use daylight::utc::utc_of;
+use daylight::zone::zone_of;
 use std::io;
 
 fn utc(word: &str, reading: (Date, u32)) -> Option<(Date, u32)> {
-    let zone = zone_of(word.as_bytes())?;
-    let time = to_utc(reading, zone, is_saving(&LawRule, zone, reading))?;
+    let time = utc_of(&LawRule, zone_of(word.as_bytes())?, reading)?;
     Some((time.date, time.second))
 }
 

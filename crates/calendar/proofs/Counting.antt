@@ -1,5 +1,5 @@
 -- The closed formula for the days of the years before, and the months of a year.
-use Rattle.std.proofs.Common.{◌≡◌, ℕ, zero, suc, ◌+◌, ◌-◌, ◌*◌, ◌/◌, ◌%◌, ◌<◌, ◌≤◌, true, false, cond, sym, refl, ap, ◌∙◌, subst, inl, inr, add-one, arith}
+use Rattle.std.proofs.Common.{◌≡◌, ℕ, zero, suc, ◌+◌, ◌-◌, ◌*◌, ◌/◌, ◌%◌, ◌<◌, ◌≤◌, min, max, true, false, cond, leb, sym, refl, ap, ◌∙◌, subst, inl, inr, add-one, arith}
 use Rattle.std.proofs.lemmas.Bool.{cases_lt, cond_both}
 use Rattle.std.proofs.lemmas.Bool.Decides.{nat_tests, eqb_tells}
 use Rattle.calendar.specs.Dates.{leap, year_length, month_length, years_before, months_before}
@@ -53,6 +53,10 @@ months_all y = elim (leap y) as (λ b. 31 + cond b 29 28 + 31 + 30 + 31 + 30 + 3
 pub month_bounds : (y m : ℕ) → 0 < month_length y m → (1 ≤ m) × (m ≤ 12)
 unfolding month_length
 month_bounds y m some = grind (arith, nat_tests)
+
+pub month_long : (y m : ℕ) → month_length y m ≤ 31
+unfolding month_length
+month_long y m = grind (arith, nat_tests)
 
 no_month : (y m : ℕ) → 13 ≤ m → month_length y m ≡ 0
 unfolding month_length
@@ -113,6 +117,41 @@ pub month_first : (y : ℕ) → months_before y 1 ≡ 0
 unfolding months_before month_length
 month_first y = refl
 
-pub month_none : (y : ℕ) → months_before y 0 ≡ 0
+-- the days before a month, by a formula in which February has 30 days
+abbrev months_formula : ℕ → ℕ → ℕ
+months_formula y m = (367 * m - 362) / 12 - cond (leb m 2) 0 (cond (leap y) 1 2)
+
+formula_step : (y m : ℕ) → 1 ≤ m → m ≤ 12 → months_formula y (suc m) ≡ months_formula y m + month_length y m
+unfolding month_length
+formula_step y m low high = grind (arith, nat_tests)
+
+formula_holds : (y m : ℕ) → 1 ≤ m → m ≤ 13 → months_before y m ≡ months_formula y m
+unfolding months_before month_length
+formula_holds y zero low high = absurd (omega arith)
+formula_holds y (suc m) low high =
+    elim (cases_lt 0 m) [
+      | inl some ↦ ap (λ n. n + month_length y m) (formula_holds y m some (omega arith)) ∙ sym (formula_step y m some (omega arith))
+      | inr none ↦ let first : m ≡ 0 = omega arith in rw first refl
+    ]
+
+-- from the thirteenth month on all of the year lies before
+months_over : (y m : ℕ) → 13 ≤ m → months_before y m ≡ months_before y 13
 unfolding months_before
-month_none y = refl
+months_over y zero h = absurd (omega arith)
+months_over y (suc m) h =
+    elim (cases_lt m 13) [
+      | inl lt ↦ let e : m ≡ 12 = omega arith in rw e refl
+      | inr ge ↦ omega (arith, months_over y m ge, no_month y m ge)
+    ]
+
+months_kept : (y m n : ℕ) → n ≡ max 1 (min m 13) → months_before y m ≡ months_before y n
+unfolding months_before month_length
+months_kept y zero n e = let first : n ≡ 1 = omega arith in rw first refl
+months_kept y (suc m) n e =
+    elim (cases_lt (suc m) 13) [
+      | inl lt ↦ let same : suc m ≡ n = omega arith in ap (months_before y) same
+      | inr ge ↦ let last : 13 ≡ n = omega arith in months_over y (suc m) ge ∙ ap (months_before y) last
+    ]
+
+pub months_closed : (y m n : ℕ) → n ≡ max 1 (min m 13) → months_before y m ≡ months_formula y n
+months_closed y m n e = months_kept y m n e ∙ formula_holds y n (omega arith) (omega arith)

@@ -5,7 +5,7 @@ use Rattle.calendar.specs.declared.date.Date.{Date}
 use Rattle.calendar.specs.Dates.{real, number, message_day}
 use Rattle.calendar.specs.Ways.{and_then}
 use Rattle.calendar.specs.Messages.{apart, full_year, candidate, nearer, nearest_date, pair_at, whole_date, message_date}
-use Rattle.calendar.specs.Nearest.{Candidate, Preferred, Nearest, MessageDates}
+use Rattle.calendar.specs.Nearest.{Candidate, Preferred, Nearest}
 use Rattle.calendar.proofs.Dates.{real_parts, by_year, same_date}
 
 pub message_day_lem : (d : Date) → message_day d ≡ true → (1900 ≤ d.year) × (d.year ≤ 2099) × (real d ≡ true)
@@ -155,11 +155,5 @@ message_in s cur =
     (λ _. then_in (pair_at s 0) _ (λ c. then_in (pair_at s 2) _ (λ y. then_in (pair_at s 4) _ (λ m. then_in (pair_at s 6) _ (λ d. candidate_in (c * 100 + y) m d)))))
     (λ _. tt)))
 
-pub message_dates : MessageDates
-message_dates =
-    record {
-      nearest = nearest_there;
-      century = in_century;
-      nearest_century = best_century;
-      in_range = λ s cur d e. subst InRange e (message_in s cur);
-    }
+pub date_in_range : (s : List ℕ) (cur d : Date) → message_date s cur ≡ Some d → message_day d ≡ true
+date_in_range s cur d e = subst InRange e (message_in s cur)

@@ -2,5 +2,8 @@ pub mod Ways
 pub mod Dates
 pub mod Numbers
 pub mod Messages
+pub mod Written
 pub mod Nearest
 pub mod Texts
+pub mod Weekdays
+pub mod Sundays

@@ -1,7 +1,7 @@
 // Dates of the Gregorian calendar and the numbers of days.
 ghost use Rattle.std.specs.Prelude.{◌≡◌, ◌+◌, ◌<◌, ◌≤◌, Some};
 ghost use Rattle.calendar.specs.Numbers.{DayNumbers};
-ghost use Rattle.calendar.specs.Dates.{leap, month_length, real, real_date, message_day, number, date_of, years_before};
+ghost use Rattle.calendar.specs.Dates.{leap, month_length, real, real_date, message_day, number, date_of, years_before, months_before};
 ghost use Rattle.calendar.specs.Messages.{candidate};
 ghost use Rattle.calendar.specs.Texts.{date_text};
 
@@ -97,17 +97,30 @@ fn days_before(year: u16) -> u32
     365 * years + (years + 3) / 4 - (years + 99) / 100 + (years + 399) / 400
 }
 
+// The days of a year before a month, all of them where the month is none of the twelve but a later one.
+#[tactic(auto, using(crate::proofs::Counting::months_closed))]
+fn days_before_month(year: u16, month: u8) -> u32
+    ensures { result ≡ months_before year month }
+{
+    let month = u32::from(month.clamp(1, 13));
+    // The months before, if February had 30 days.
+    let days = (367 * month - 362) / 12;
+    let short = if month <= 2 {
+        0
+    } else if is_leap(year) {
+        1
+    } else {
+        2
+    };
+    days - short
+}
+
 // The number of a day: 1 January of the year 0 has the number 1.
-// A loop, since a sum over a chain of the months left open that it fits.
-#[tactic(auto, using(crate::proofs::Counting::years_most, crate::proofs::Counting::months_most, crate::proofs::Counting::month_more, crate::proofs::Counting::month_none))]
+#[tactic(auto, using(crate::proofs::Counting::years_most, crate::proofs::Counting::months_most))]
 pub fn day_number(date: Date) -> u32
     ensures { result ≡ number date }
 {
-    let mut days = days_before(date.year);
-    for month in 0..date.month {
-        days += u32::from(month_length(date.year, month));
-    }
-    days + u32::from(date.day)
+    days_before(date.year) + days_before_month(date.year, date.month) + u32::from(date.day)
 }
 
 // The year in which the day of this number lies.

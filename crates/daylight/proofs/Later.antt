@@ -1,5 +1,5 @@
 -- UTC on the line of instants.
-use Rattle.std.proofs.Common.{◌≡◌, ℕ, ◌+◌, ◌<◌, true, false, ltb, pos, Some, None, Option, sym, ap, ◌∙◌, subst, inl, inr, arith}
+use Rattle.std.proofs.Common.{◌≡◌, ℕ, ◌+◌, ◌-◌, ◌*◌, ◌<◌, Bool, true, false, ltb, pos, Some, None, Option, sym, ap, ◌∙◌, subst, inl, inr, arith}
 use Rattle.std.proofs.lemmas.Bool.{cond_both, cases_Bool, and_parts, ltb-true, both_ways}
 use Rattle.calendar.specs.declared.date.Date.{Date}
 use Rattle.instants.specs.declared.moves.Unit.TheVariants.{Second}
@@ -11,8 +11,9 @@ use Rattle.instants.specs.Utc.{utc_time}
 use Rattle.instants.proofs.Moving.{moving}
 use Rattle.calendar.proofs.Dates.{same_number, real_parts}
 use Rattle.calendar.proofs.Nearest.{message_day_lem}
-use Rattle.daylight.specs.Zones.{seconds_behind}
-use Rattle.daylight.specs.Utc.{only_utc, to_utc, Behind, UtcIsLater}
+use Rattle.daylight.specs.declared.zone.Zone.{Zone}
+use Rattle.daylight.specs.Zones.{keeps_daylight, seconds_behind}
+use Rattle.daylight.specs.Utc.{only_utc, to_utc, utc_of, Behind, UtcIsLater}
 
 same_pos : (m n : ℕ) → pos m ≡ pos n → m ≡ n
 same_pos m n e = cc
@@ -43,10 +44,25 @@ behind r n is (Some p) there =
 unreal_behind : (r : Date × ℕ) (n : ℕ) → real r.0 ≡ false → Behind r n None
 unreal_behind r n e = λ is. absurd (both_ways (real r.0) e is)
 
-pub later : UtcIsLater
+later : (r : Date × ℕ) (zone : Zone) (saves : Bool) → Behind r (seconds_behind zone saves) (to_utc r zone saves)
 unfolding to_utc
 later r zone saves =
     elim (cases_Bool (real r.0)) [
       | inl is ↦ behind r (seconds_behind zone saves) is (moved r Second (pos (seconds_behind zone saves))) (moving.seconds r (pos (seconds_behind zone saves)) is)
       | inr e ↦ subst (λ o. Behind r (seconds_behind zone saves) (and_then o only_utc)) (sym (moving.unreal r Second (pos (seconds_behind zone saves)) e)) (unreal_behind r (seconds_behind zone saves) e)
     ]
+
+-- by so many seconds, where these are what the zone is behind at the reading
+under_rule : (daylight : Date × ℕ → Bool) (zone : Zone) (r : Date × ℕ) (saves : Bool) (n : ℕ) → keeps_daylight daylight zone.saving r ≡ saves → seconds_behind zone saves ≡ n
+    → Behind r n (utc_of daylight zone r)
+under_rule daylight zone r saves n is behind-by =
+    subst (λ k. Behind r k (utc_of daylight zone r)) behind-by
+    (subst (λ b. Behind r (seconds_behind zone saves) (to_utc r zone b)) (sym is) (later r zone saves))
+
+pub utc_is_later : UtcIsLater
+utc_is_later =
+    record {
+      told = later;
+      standard = λ daylight zone r is. under_rule daylight zone r false (zone.hours * 3600) is (omega arith);
+      saving = λ daylight zone r is. under_rule daylight zone r true (zone.hours * 3600 - 3600) is (omega arith);
+    }

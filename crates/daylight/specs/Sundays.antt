@@ -1,26 +1,26 @@
 -- The daylight of the law, by Sundays.
-use Rattle.std.specs.Prelude.{ℕ, zero, suc, ◌+◌, ◌%◌, Bool, cond, ◌==◌}
+use Rattle.std.specs.Prelude.{ℕ, Bool, false, Some, None, Option}
+use Rattle.std.specs.Option.{option_map}
 use Rattle.calendar.specs.declared.date.Date.{Date}
-use Rattle.calendar.specs.Dates.{number}
+use Rattle.calendar.specs.Weekdays.{nth_sunday}
 use Rattle.daylight.specs.declared.span.MonthDay.{MonthDay}
 use Rattle.daylight.specs.Spans.{between}
 
--- 1 January of the year 0, whose number is 1, is a Saturday
-abbrev pub sunday : Date → Bool
-sunday d = number d % 7 == 2
+-- the n-th Sunday of a month, where it has so many
+abbrev pub sunday_of : ℕ → ℕ → ℕ → Option MonthDay
+sunday_of y m n = option_map (λ d. record { month = m; day = d }) (nth_sunday y m n)
 
--- the first Sunday from a day on, looked for on so many days and then taken for the next
-unfoldable pub sunday_from : ℕ → ℕ → ℕ → ℕ → ℕ
-sunday_from zero y m d = d
-sunday_from (suc n) y m d = cond (sunday (record { year = y; month = m; day = d })) d (sunday_from n y m (d + 1))
+abbrev pub second_sunday_of_march : ℕ → Option MonthDay
+second_sunday_of_march y = sunday_of y 3 2
 
--- the Sunday among the 8th to the 14th of March
-abbrev pub second_sunday_of_march : ℕ → MonthDay
-second_sunday_of_march y = record { month = 3; day = sunday_from 6 y 3 8 }
+abbrev pub first_sunday_of_november : ℕ → Option MonthDay
+first_sunday_of_november y = sunday_of y 11 1
 
--- the Sunday among the 1st to the 7th of November
-abbrev pub first_sunday_of_november : ℕ → MonthDay
-first_sunday_of_november y = record { month = 11; day = sunday_from 6 y 11 1 }
+-- from the one day to the other, where both are there
+abbrev pub between_both : Option MonthDay → Option MonthDay → Date × ℕ → Bool
+between_both None last r = false
+between_both (Some first) None r = false
+between_both (Some first) (Some last) r = between first last r
 
 abbrev pub law_daylight : Date × ℕ → Bool
-law_daylight r = between (second_sunday_of_march r.0.year) (first_sunday_of_november r.0.year) r
+law_daylight r = between_both (second_sunday_of_march r.0.year) (first_sunday_of_november r.0.year) r

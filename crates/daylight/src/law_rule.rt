@@ -1,22 +1,21 @@
 // Daylight by law: from the second Sunday of March to the first Sunday of November, in every year.
-ghost use Rattle.std.specs.Prelude.{◌≡◌, ◌+◌, ◌≤◌};
-ghost use Rattle.daylight.specs.Sundays.{sunday_from, law_daylight};
+ghost use Rattle.std.specs.Prelude.{◌≡◌};
+ghost use Rattle.daylight.specs.Sundays.{sunday_of, law_daylight};
 
 use crate::rule::Rule;
 use crate::span::{MonthDay, is_between};
-use calendar::date::{Date, day_number};
+use calendar::date::Date;
+use calendar::weekday::nth_sunday;
 
 #[derive(Clone, Copy)]
 pub struct LawRule;
 
-// The first Sunday from a day on, which lies at most six days later.
-fn sunday_from(year: u16, month: u8, day: u8) -> u8
-    requires { day ≤ 20 }
-    ensures { result ≡ sunday_from 6 year month day }
+// The n-th Sunday of a month, where it has so many.
+fn sunday_of(year: u16, month: u8, n: u8) -> Option<MonthDay>
+    ensures { result ≡ sunday_of year month n }
 {
-    // The number of a Sunday leaves 2 when divided by 7.
-    let days = (9 - day_number(Date { year, month, day }) % 7) % 7;
-    day + days as u8
+    let day = nth_sunday(year, month, n)?;
+    Some(MonthDay { month, day })
 }
 
 impl Rule for LawRule {
@@ -24,14 +23,9 @@ impl Rule for LawRule {
 
     fn is_daylight(&self, reading: (Date, u32)) -> bool {
         let year = reading.0.year;
-        let first = MonthDay {
-            month: 3,
-            day: sunday_from(year, 3, 8),
-        };
-        let last = MonthDay {
-            month: 11,
-            day: sunday_from(year, 11, 1),
-        };
-        is_between(first, last, reading)
+        match (sunday_of(year, 3, 2), sunday_of(year, 11, 1)) {
+            (Some(first), Some(last)) => is_between(first, last, reading),
+            _ => false,
+        }
     }
 }

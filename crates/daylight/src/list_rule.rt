@@ -22,7 +22,7 @@ pub struct ListRule<'a> {
 impl<'a> Rule for ListRule<'a> {
     ghost daylight = { λ l r. list_daylight l.changes.now r };
 
-    // A loop and no `find`, by a rule of the project: its readers see the first entry end it.
+    // A loop and no `find`: that the first entry counts is seen where the loop ends at it.
     fn is_daylight(&self, reading: (Date, u32)) -> bool {
         for change in self.changes {
             if change.year == reading.0.year {

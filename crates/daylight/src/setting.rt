@@ -1,11 +1,16 @@
 // What a decode is told besides the text: the current date, and when daylight time is kept.
 ghost use Rattle.std.specs.Prelude.{◌≡◌};
+ghost use Rattle.std.specs.Option.{option_map};
+ghost use Rattle.instants.specs.Moments.{moment};
 ghost use Rattle.daylight.specs.Settings.{told};
+ghost use Rattle.daylight.specs.Utc.{utc_of as utc_by};
 ghost use Rattle.daylight.specs.Zones.{keeps_daylight};
 
 use crate::rule::Rule;
+use crate::utc::utc_of;
 use crate::zone::{Zone, is_saving};
 use calendar::date::Date;
+use instants::utc_time::UtcTime;
 
 // Its fields are public, and clauses see them by `told`: the value of a Model can hold no function, as that of the daylight readings.
 #[derive(Drop)]
@@ -20,5 +25,12 @@ impl<'r, R: Rule> Setting<'r, R> {
         ensures { result ≡ keeps_daylight (told R.daylight self.now).daylight zone.saving reading }
     {
         is_saving(self.rule, zone, reading)
+    }
+
+    // The time in UTC of a local reading, daylight decided on it.
+    pub fn utc(&self, zone: Zone, reading: (Date, u32)) -> Option<UtcTime>
+        ensures { option_map moment result ≡ utc_by (told R.daylight self.now).daylight zone reading }
+    {
+        utc_of(self.rule, zone, reading)
     }
 }

@@ -3,9 +3,10 @@ ghost use Rattle.std.specs.Prelude.{◌≡◌};
 ghost use Rattle.std.specs.Option.{option_map};
 ghost use Rattle.instants.specs.Moments.{moment};
 ghost use Rattle.daylight.specs.Zones.{seconds_behind};
-ghost use Rattle.daylight.specs.Utc.{to_utc, UtcIsLater};
+ghost use Rattle.daylight.specs.Utc.{to_utc, utc_of, UtcIsLater};
 
-use crate::zone::Zone;
+use crate::rule::Rule;
+use crate::zone::{Zone, is_saving};
 use calendar::date::Date;
 use instants::moves::{Move, Unit, moved};
 use instants::utc_time::UtcTime;
@@ -30,7 +31,15 @@ pub fn to_utc(reading: (Date, u32), zone: Zone, saving: bool) -> Option<UtcTime>
     UtcTime::new(date, second)
 }
 
-// On the line of instants UTC is the reading plus the seconds behind, and it is refused only outside 1900 to 2099.
+// The time in UTC under a rule, which is asked about this reading where the zone goes by it.
+pub fn utc_of<R: Rule>(rule: &R, zone: Zone, reading: (Date, u32)) -> Option<UtcTime>
+    ensures { option_map moment result ≡ utc_of (R.Rule.daylight rule.now) zone reading }
+{
+    to_utc(reading, zone, is_saving(rule, zone, reading))
+}
+
+// On the line of instants UTC is the reading plus the seconds behind; that of a real date is refused only outside 1900 to
+// 2099.
 pub fn utc_is_later()
     ensures { UtcIsLater }
 {}

@@ -7,7 +7,8 @@ use Rattle.calendar.specs.Dates.{message_day}
 use Rattle.calendar.specs.Messages.{candidate}
 use Rattle.ditems.specs.declared.groups.Groups.{Groups}
 use Rattle.ditems.specs.Readings.{day_of, second_of, reading_of}
-use Rattle.ditems.proofs.Somes.{then_some, mapped_some, when-some}
+use Rattle.calendar.proofs.Ways.{then_some}
+use Rattle.ditems.proofs.Somes.{mapped_some, when-some}
 
 day-real : (g : Groups) (d : Date) → day_of g ≡ Some d → message_day d ≡ true
 unfolding day_of candidate

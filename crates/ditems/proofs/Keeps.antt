@@ -10,7 +10,8 @@ use Rattle.ditems.specs.declared.groups.Group.TheVariants.{Century, Year, Month,
 use Rattle.ditems.specs.Groups.{groups, with_group, smaller, zeroed, set_from}
 use Rattle.ditems.specs.Times.{time_item, some_groups}
 use Rattle.ditems.specs.TimeLaws.{SameDate}
-use Rattle.ditems.proofs.Somes.{then_some, when-some}
+use Rattle.calendar.proofs.Ways.{then_some}
+use Rattle.ditems.proofs.Somes.{when-some}
 
 -- no group, or one of the clock
 abbrev Late : Option Group → Type 0

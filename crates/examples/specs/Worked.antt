@@ -7,7 +7,7 @@ use Rattle.daylight.specs.Sundays.{law_daylight}
 use Rattle.daylight.specs.Zones.{zone_of}
 use Rattle.quantity.specs.declared.units.Units.TheVariants.{Si}
 use Rattle.terms.specs.declared.stage.Stage.TheVariants.{BeforeSteps}
-use Rattle.terms.specs.Created.{utc_of}
+use Rattle.daylight.specs.Utc.{utc_of}
 use Rattle.terms.specs.Items.{after_item}
 use Rattle.terms.specs.Observed.{observed_at}
 use Rattle.terms.specs.Standing.{opening}

@@ -7,8 +7,8 @@ ghost use Rattle.examples.specs.Worked.{in_utc, step_of, WorkedExamples};
 use calendar::date::Date;
 use daylight::law_rule::LawRule;
 use daylight::setting::Setting;
-use daylight::utc::to_utc;
-use daylight::zone::{is_saving, zone_of};
+use daylight::utc::utc_of;
+use daylight::zone::zone_of;
 use instants::utc_time::UtcTime;
 use terms::stage::Stage;
 use terms::terms::Terms;
@@ -22,8 +22,7 @@ pub fn worked_examples()
 pub(crate) fn in_utc(word: &[u8], reading: (Date, u32)) -> Option<UtcTime>
     ensures { option_map moment result ≡ in_utc word.now reading }
 {
-    let zone = zone_of(word)?;
-    to_utc(reading, zone, is_saving(&LawRule, zone, reading))
+    utc_of(&LawRule, zone_of(word)?, reading)
 }
 
 // The time of a step of a message in the zone of a word, an interval being its only D item.

@@ -1,17 +1,20 @@
 -- Where moves land.
-use Rattle.std.proofs.Common.{◌≡◌, ℕ, ◌+◌, ◌-◌, ◌*◌, ◌/◌, ◌%◌, ◌≤◌, min, true, false, leb, ℤ, pos, negsuc, ◌+ℤ◌, ◌*ℤ◌, Some, None, Option, sym, refl, ap, ◌∙◌, subst, inl, inr, arith}
+use Rattle.std.proofs.Common.{◌≡◌, ℕ, ◌+◌, ◌-◌, ◌*◌, ◌/◌, ◌%◌, ◌≤◌, min, true, false, leb, ℤ, pos, negsuc, ◌+ℤ◌, ◌*ℤ◌, nat_abs, ◌≢◌, Some, None, Option, sym, refl, ap, ◌∙◌, subst, inl, inr, arith}
 use lib.IntN.{pos-ne-negsuc, +ℤ_assoc}
 use Rattle.std.specs.Option.{option_map}
-use Rattle.std.proofs.lemmas.Bool.{cond-true, cond-false, cond_both, cases_Bool, leb-true, leb-false}
+use Rattle.std.proofs.lemmas.Bool.{cond-true, cond-false, cond_both, cases_Bool, leb-true, leb-false, le-leb}
 use Rattle.std.proofs.lemmas.Int.{ints}
+use Rattle.std.proofs.lemmas.Option.{none-some}
 use Rattle.calendar.specs.declared.date.Date.{Date}
 use Rattle.instants.specs.declared.moves.Unit as the_unit
 use Rattle.instants.specs.declared.moves.Unit.TheVariants.{Second, Minute, Hour, Day, Month, Year, MonthEnd}
-use Rattle.calendar.specs.Dates.{month_length, real, number, date_of}
+use Rattle.calendar.specs.Dates.{month_length, real, message_day, number, date_of}
 use Rattle.calendar.specs.Ways.{and_then}
 use Rattle.instants.specs.Moves.{natural, instant, reading_at, month_place, month_at, month_from, by_seconds, by_days, by_months, to_month_end, with_second, real_moved, moved}
 use Rattle.instants.specs.Moving.{AtInstant, AtDay, InMonth, Moving}
-use Rattle.calendar.proofs.Dates.{real_parts, real_whole, number_of_date, no_date, last_number, real_from, month_some}
+use Rattle.calendar.proofs.Counting.{years_closed, years_up}
+use Rattle.calendar.proofs.Dates.{real_parts, real_whole, within, number_of_date, no_date, last_number, real_from, month_some}
+use Rattle.calendar.proofs.Nearest.{message_day_lem}
 
 is_moved : (r : Date × ℕ) (u : the_unit.Unit) (z : ℤ) → real r.0 ≡ true → moved r u z ≡ real_moved r u z
 unfolding moved
@@ -128,6 +131,66 @@ same_months r q z e =
           year_months r.0.year r.0.month q.0.year q.0.month z old.month_low old.month_high new.month_low new.month_high there.2
     ]
 
+-- moves by at most 99 from a day of 1900 to 2099
+near_natural : (i k : ℕ) (z w : ℤ) → pos i +ℤ z ≡ w → nat_abs z ≤ k → k ≤ i → (n : ℕ) × (natural w ≡ Some n) × (i ≤ n + k) × (n ≤ i + k)
+near_natural i k z (pos n) e small le = (n, refl, omega (arith, ints), omega (arith, ints))
+near_natural i k z (negsuc n) e small le = absurd (omega (arith, ints))
+
+some_day : (n : ℕ) → 1 ≤ n → n ≤ 3652425 → date_of n ≢ None
+some_day n low high e = elim (no_date n e) [ inl none ↦ omega arith | inr over ↦ omega arith ]
+
+none_mapped : {A B : Type 0} (f : A → B) (o : Option A) → option_map f o ≡ None → o ≡ None
+none_mapped f None e = refl
+none_mapped f (Some x) e = absurd (none-some (f x) (sym e))
+
+record Inside (d : Date) : Type 0 where
+  low : 693962 ≤ number d
+  high : number d ≤ 767010
+  month_low : 22800 ≤ month_place d
+  month_high : month_place d ≤ 25199
+
+inside : (d : Date) → message_day d ≡ true → Inside d
+inside d is =
+    let years = message_day_lem d is in
+    let parts = real_parts d years.2 in
+    let days = within d parts in
+    let first = years_closed d.year in
+    let last = years_up d.year 2100 (omega arith) in
+    record { low = omega arith; high = omega (arith, last, years_closed 2100); month_low = omega arith; month_high = omega arith }
+
+seconds_inside : (r : Date × ℕ) (z : ℤ) → message_day r.0 ≡ true → r.1 ≤ 86400 → nat_abs z ≤ 360000 → by_seconds r z ≢ None
+unfolding by_seconds
+seconds_inside r z is low small e =
+    let in_days = inside r.0 is in
+    let near = near_natural (instant r) 360000 z (pos (instant r) +ℤ z) refl small (omega (arith, in_days.low)) in
+    let none : reading_at near.0 ≡ None = sym (ap (λ o. and_then o reading_at) near.1) ∙ e in
+    some_day (near.0 / 86400) (omega (arith, in_days.low, near.2)) (omega (arith, in_days.high, near.3)) (none_mapped _ (date_of (near.0 / 86400)) none)
+
+days_inside : (d : Date) (z : ℤ) → message_day d ≡ true → nat_abs z ≤ 99 → by_days d z ≢ None
+unfolding by_days
+days_inside d z is small e =
+    let in_days = inside d is in
+    let near = near_natural (number d) 99 z (pos (number d) +ℤ z) refl small (omega (arith, in_days.low)) in
+    some_day near.0 (omega (arith, in_days.low, near.2)) (omega (arith, in_days.high, near.3)) (sym (ap (λ o. and_then o date_of) near.1) ∙ e)
+
+months_inside : (d : Date) (z : ℤ) → message_day d ≡ true → nat_abs z ≤ 1188 → month_from d z ≢ None
+unfolding month_from
+months_inside d z is small e =
+    let in_months = inside d is in
+    let near = near_natural (month_place d) 1188 z (pos (month_place d) +ℤ z) refl small (omega (arith, in_months.month_low)) in
+    let none : month_at near.0 ≡ None = sym (ap (λ o. and_then o month_at) near.1) ∙ e in
+    none-some _ (sym none ∙ cond-true (leb (near.0 / 12) 9999) _ None (le-leb (near.0 / 12) 9999 (omega (arith, in_months.month_high, near.3))))
+
+stays_inside : (r : Date × ℕ) (u : the_unit.Unit) (z : ℤ) → message_day r.0 ≡ true → r.1 ≤ 86400 → nat_abs z ≤ 99 → real_moved r u z ≢ None
+unfolding by_months to_month_end
+stays_inside r Second z is low small e = seconds_inside r z is low (omega arith) e
+stays_inside r Minute z is low small e = seconds_inside r (pos 60 *ℤ z) is low (omega (arith, ints)) e
+stays_inside r Hour z is low small e = seconds_inside r (pos 3600 *ℤ z) is low (omega (arith, ints)) e
+stays_inside r Day z is low small e = days_inside r.0 z is small (none_mapped _ (by_days r.0 z) e)
+stays_inside r Month z is low small e = months_inside r.0 z is (omega arith) (none_mapped _ (month_from r.0 z) (none_mapped _ (by_months r.0 z) e))
+stays_inside r Year z is low small e = months_inside r.0 (pos 12 *ℤ z) is (omega (arith, ints)) (none_mapped _ (month_from r.0 (pos 12 *ℤ z)) (none_mapped _ (by_months r.0 (pos 12 *ℤ z)) e))
+stays_inside r MonthEnd z is low small e = months_inside r.0 z is (omega arith) (none_mapped _ (month_from r.0 z) (none_mapped _ (to_month_end r.0 z) e))
+
 pub moving : Moving
 moving =
     record {
@@ -140,5 +203,6 @@ moving =
       years = years_there;
       same_month = same_months;
       month_ends = λ r z is. subst (InMonth r.1 (λ len. len) (pos (month_place r.0) +ℤ z)) (sym (is_moved r MonthEnd z is)) (to_month_end_lem r.1 r.0 z);
+      stays_inside = λ r u z is low small e. stays_inside r u z is low small (sym (is_moved r u z (message_day_lem r.0 is).2) ∙ e);
       unreal = unmoved;
     }

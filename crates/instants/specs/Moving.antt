@@ -1,9 +1,9 @@
 -- What moves do, in words of the calendar: where they land, and that they fail only where the calendar has no such place.
-use Rattle.std.specs.Prelude.{◌≡◌, ℕ, ◌<◌, min, true, false, ℤ, pos, ◌+ℤ◌, ◌*ℤ◌, Some, None, Option, ◌≢◌}
+use Rattle.std.specs.Prelude.{◌≡◌, ℕ, ◌<◌, ◌≤◌, min, true, false, ℤ, pos, ◌+ℤ◌, ◌*ℤ◌, nat_abs, Some, None, Option, ◌≢◌}
 use Rattle.calendar.specs.declared.date.Date.{Date}
 use Rattle.instants.specs.declared.moves.Unit as the_unit
 use Rattle.instants.specs.declared.moves.Unit.TheVariants.{Second, Minute, Hour, Day, Month, Year, MonthEnd}
-use Rattle.calendar.specs.Dates.{month_length, real, number}
+use Rattle.calendar.specs.Dates.{month_length, real, message_day, number}
 use Rattle.instants.specs.Moves.{instant, month_place, moved}
 
 -- the real reading at a place on the line of instants, its second below 86,400
@@ -35,5 +35,7 @@ pub record Moving : Type 0 where
   pub years : (r : Date × ℕ) (z : ℤ) → real r.0 ≡ true → InMonth r.1 (min r.0.day) (pos (month_place r.0) +ℤ pos 12 *ℤ z) (moved r Year z)
   pub same_month : (r q : Date × ℕ) (z : ℤ) → moved r Year z ≡ Some q → (q.0.month ≡ r.0.month) × (pos q.0.year ≡ pos r.0.year +ℤ z)
   pub month_ends : (r : Date × ℕ) (z : ℤ) → real r.0 ≡ true → InMonth r.1 (λ len. len) (pos (month_place r.0) +ℤ z) (moved r MonthEnd z)
+  -- from a day of 1900 to 2099 no move by at most 99 leaves the calendar
+  pub stays_inside : (r : Date × ℕ) (u : the_unit.Unit) (z : ℤ) → message_day r.0 ≡ true → r.1 ≤ 86400 → nat_abs z ≤ 99 → moved r u z ≢ None
   -- a date that is not real is not moved
   pub unreal : (r : Date × ℕ) (u : the_unit.Unit) (z : ℤ) → real r.0 ≡ false → moved r u z ≡ None

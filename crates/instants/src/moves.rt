@@ -39,7 +39,7 @@ fn day_at(ordinal: u128) -> Option<Date>
     date_of(u32::try_from(ordinal).ok()?)
 }
 
-// A reading is a pair of a date and a second of the day, by a rule of the project.
+// A reading is a pair and no struct: its two parts come apart at each move and at each question to a daylight rule.
 #[tactic(auto, unfolding(crate::specs::Moves::by_seconds))]
 fn move_seconds(reading: (Date, u32), distance: i128) -> Option<(Date, u32)>
     ensures { result ≡ by_seconds reading distance }
@@ -114,7 +114,7 @@ pub fn moved(reading: (Date, u32), by: Move, times: u64) -> Option<(Date, u32)>
     }
 }
 
-// Where moves land, and that they fail only where the calendar has no such place.
+// Where moves of a reading of a real date land, and that they fail only where the calendar has no such place.
 pub fn moving()
     ensures { Moving }
 {}

@@ -10,7 +10,7 @@ use Rattle.calendar.specs.Ways.{and_then}
 use Rattle.daylight.specs.declared.zone.Zone.{Zone}
 use Rattle.ditems.specs.Groups.{groups_at}
 use Rattle.ditems.specs.Readings.{day_of, second_of, reading_of}
-use Rattle.terms.specs.Created.{utc_of}
+use Rattle.daylight.specs.Utc.{utc_of}
 use Rattle.terms.specs.Observed.{shifted, step_reading, observed_at}
 use Rattle.terms.specs.Settings.{moved_by, every}
 use Rattle.terms.specs.Standing.{Standing, opening}

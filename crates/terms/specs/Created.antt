@@ -5,8 +5,7 @@ use Rattle.calendar.specs.declared.date.Date.{Date}
 use Rattle.calendar.specs.Messages.{message_date}
 use Rattle.calendar.specs.Ways.{and_then}
 use Rattle.daylight.specs.declared.zone.Zone.{Zone}
-use Rattle.daylight.specs.Utc.{to_utc}
-use Rattle.daylight.specs.Zones.{keeps_daylight}
+use Rattle.daylight.specs.Utc.{utc_of}
 use Rattle.ditems.specs.Groups.{groups_at, set_from}
 use Rattle.ditems.specs.Readings.{reading_of}
 use Rattle.ditems.specs.declared.groups.Group.TheVariants.{Hour}
@@ -22,10 +21,6 @@ day_and_clock today date time = and_then (message_date date today) (λ d. and_th
 -- the local reading that the digits write
 unfoldable pub created_reading : Date → List ℕ → Option (Date × ℕ)
 created_reading today digits = and_then (date_length (length digits)) (λ k. day_and_clock today (take k digits) (drop k digits))
-
--- a local reading in UTC, daylight decided on it
-abbrev pub utc_of : (Date × ℕ → Bool) → Zone → Date × ℕ → Option (Date × ℕ)
-utc_of daylight zone r = to_utc r zone (keeps_daylight daylight zone.saving r)
 
 -- the date and the minute of the day in UTC
 unfoldable pub created_of : Date → (Date × ℕ → Bool) → Zone → List ℕ → Option (Date × ℕ)

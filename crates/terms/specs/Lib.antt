@@ -5,3 +5,4 @@ pub mod Settings
 pub mod Stages
 pub mod Standing
 pub mod TermLaws
+pub mod StepTimes

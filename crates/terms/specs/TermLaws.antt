@@ -8,7 +8,7 @@ use Rattle.daylight.specs.declared.zone.Zone.{Zone}
 use Rattle.ditems.specs.Readings.{reading_of}
 use Rattle.terms.specs.declared.stage.Stage as the_stage
 use Rattle.terms.specs.declared.stage.Stage.TheVariants.{Free, AmongSteps}
-use Rattle.terms.specs.Created.{utc_of}
+use Rattle.daylight.specs.Utc.{utc_of}
 use Rattle.terms.specs.Items.{after_item}
 use Rattle.terms.specs.Observed.{observed_at}
 use Rattle.terms.specs.Settings.{at_groups, made_at, in_units, lasting, moved_by, every}

@@ -9,7 +9,6 @@ use calendar::date::Date;
 use calendar::message::message_date;
 use daylight::rule::Rule;
 use daylight::setting::Setting;
-use daylight::utc::to_utc;
 use daylight::zone::Zone;
 use ditems::groups::{Group, Groups};
 use ditems::readings::reading_of;
@@ -45,7 +44,6 @@ pub fn created_of<R: Rule>(digits: &[u8], zone: Zone, setting: &Setting<'_, R>) 
     ensures { let S = told R.daylight setting.now in option_map minute_of result ≡ created_of S.today S.daylight zone digits.now }
 {
     let reading = created_reading(setting.today, digits)?;
-    let saving = setting.is_saving(zone, reading);
-    let time = to_utc(reading, zone, saving)?;
+    let time = setting.utc(zone, reading)?;
     Some(time.to_minute())
 }

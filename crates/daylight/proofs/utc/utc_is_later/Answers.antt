@@ -1,5 +1,5 @@
-use Rattle.daylight.proofs.Later.{later}
+use Rattle.daylight.proofs.Later.{utc_is_later as TheLaw}
 use Rattle.daylight.proofs.utc.utc_is_later.Goals as goal
 
 pub returns : goal.returns
-returns c = later
+returns c = TheLaw

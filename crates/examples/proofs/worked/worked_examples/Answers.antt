@@ -3,7 +3,7 @@ use Rattle.calendar.specs.Dates.{month_length, real, message_day, years_before, 
 use Rattle.calendar.specs.Messages.{candidate, nearer, nearest_date, message_date}
 use Rattle.instants.specs.Moves.{month_from, by_months, moved}
 use Rattle.daylight.specs.Spans.{before_change, between}
-use Rattle.daylight.specs.Sundays.{sunday_from}
+use Rattle.calendar.specs.Weekdays.{weekday, nth_sunday}
 use Rattle.daylight.specs.Zones.{hours_of, one_letter}
 use Rattle.ditems.specs.Moves.{count_of, move_of}
 use Rattle.ditems.specs.Readings.{day_of, second_of}
@@ -17,7 +17,7 @@ use Rattle.examples.specs.Worked.{day}
 use Rattle.examples.proofs.worked.worked_examples.Goals as goal
 
 pub returns : goal.returns
-unfolding message_date nearest_date nearer candidate message_day real month_length years_before months_before sunday_from before_change between hours_of one_letter after_item kind_item interval_item move_of count_of observed_at day_of second_of step_reading shifted moved by_months month_from elements read_for
+unfolding message_date nearest_date nearer candidate message_day real month_length years_before months_before weekday nth_sunday before_change between hours_of one_letter after_item kind_item interval_item move_of count_of observed_at day_of second_of step_reading shifted moved by_months month_from elements read_for
 returns c =
     record {
       tie = refl;
