@@ -1,7 +1,7 @@
 -- A body line's end, and its first word, as relations. Assumes nothing.
 use Rattle.std.proofs.Common.{◌≡◌, ℕ, ◌+◌, ◌-◌, ◌<◌, true, false, cond, List, [], ◌∷◌, length, get_or, take, drop, sym, refl, ap, ◌∙◌, subst, ⊎_elim, arith}
 use Rattle.items.proofs.Cuts.{slash_outside}
-use Rattle.items.proofs.Parting.{Passes, all_leading, cut_parted, marks-drop, marks-take, none_before, run_behind}
+use Rattle.items.proofs.Parting.{Passes, all_leading, all_led, cut_parted, marks-drop, marks-take, none_before, run_behind}
 use Rattle.items.proofs.Scan.{ending-push, length-marks, step}
 use Rattle.items.specs.declared.mark.Mark.{Mark}
 use Rattle.items.specs.declared.mark.Mark.TheVariants.{Blank, Slash, Text}
@@ -107,17 +107,13 @@ blank_reads bs is =
     let n : prefix_len (passes Blanks) (marks false bs) ≡ length bs = eqb-true _ _ is in
     subst (Passes Blanks) (take_all (prefix_len (passes Blanks) (marks false bs)) (marks false bs) (omega (arith, length-marks false bs))) (all_leading (passes Blanks) (marks false bs))
 
-all_leads : (ms : List Mark) → Passes Blanks ms → prefix_len (passes Blanks) ms ≡ length ms
-all_leads [] h = refl
-all_leads (m ∷ ms) h = cond-true _ _ _ h.0 ∙ omega (arith, all_leads ms h.1)
-
 held : (p : ℕ) (mid : List ℕ) → Held p mid (cond (is_blank mid) [] (cut_items (p, mid)))
 held p mid =
     ⊎_elim
     (λ is. subst (Held p mid) (sym (cond-true _ [] (cut_items (p, mid)) is)) (none (blank_reads mid is)))
     (λ is.
     subst (Held p mid) (sym (cond-false _ [] (cut_items (p, mid)) is))
-    (some (λ h. eqb-false _ _ is (all_leads (marks false mid) h ∙ length-marks false mid)) (cut_parted (p, mid))))
+    (some (λ h. eqb-false _ _ is (all_led (passes Blanks) (marks false mid) h ∙ length-marks false mid)) (cut_parted (p, mid))))
     (cases_Bool (is_blank mid))
 
 pub body_parted : BodyParted

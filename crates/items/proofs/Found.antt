@@ -3,7 +3,8 @@ use Rattle.std.proofs.Common.{◌≡◌, ℕ, ◌<◌, ◌≤◌, true, false, L
 use Rattle.items.proofs.Ends.{blank_reads}
 use Rattle.items.proofs.Parting.{Passes, all_leading, marks-drop, marks-take, no_leading}
 use Rattle.items.proofs.Scan.{length-marks, step}
-use Rattle.items.proofs.Words.{ink_outside, word_begins}
+use Rattle.items.proofs.Outside.{inked_outside}
+use Rattle.items.proofs.Words.{word_begins}
 use Rattle.items.specs.declared.mark.Mark.TheVariants.{Text}
 use Rattle.items.specs.declared.mark.Run.TheVariants.{Blanks, Word}
 use Rattle.items.specs.Items.{is_blank}
@@ -20,20 +21,20 @@ no_colon : (b : ℕ) → passes Word (mark_of false b) ≡ true → after false 
 no_colon b is = grind (arith, nat_tests)
 
 -- a word opens no comment
-word_closed : (xs : List ℕ) → Reads Word false xs → leaves false xs ≡ false
+pub word_closed : (xs : List ℕ) → Reads Word false xs → leaves false xs ≡ false
 word_closed [] h = refl
 word_closed (x ∷ xs) h =
     let out = no_colon x h.0 in
     ap (λ s. leaves s xs) out ∙ word_closed xs (subst (λ s. Passes Word (marks s xs)) out h.1)
 
 module _ (bs inner : List ℕ) (lead n : ℕ) (leads : lead_of bs ≡ lead) (is : inner ≡ drop lead bs) (len : word_len inner ≡ n) (lt : lead < length bs) where
-  outside : leaves false (take lead bs) ≡ false
+  pub outside : leaves false (take lead bs) ≡ false
   outside =
       let long = length-marks false bs in
       let here = step bs lead (leaves false (take lead bs)) lt (sym (marks-drop lead false bs)) in
-      ink_outside (leaves false (take lead bs)) (get_or bs lead 0) (ap (passes Blanks) (sym here.mark) ∙ subst (λ k. passes Blanks (get_or (marks false bs) k Text) ≡ false) leads (prefix_len_stops (passes Blanks) (marks false bs) Text (omega arith)))
+      (inked_outside Blanks refl (leaves false (take lead bs)) (get_or bs lead 0) (ap (passes Blanks) (sym here.mark) ∙ subst (λ k. passes Blanks (get_or (marks false bs) k Text) ≡ false) leads (prefix_len_stops (passes Blanks) (marks false bs) Text (omega arith)))).0
 
-  reads : Reads Word false (take n inner)
+  pub reads : Reads Word false (take n inner)
   reads = subst (Passes Word) (ap (λ k. take k (marks false inner)) len ∙ sym (marks-take n false inner)) (all_leading (passes Word) (marks false inner))
 
   behind : prefix_len (passes Word) (marks false (drop n inner)) ≡ 0

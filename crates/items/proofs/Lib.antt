@@ -4,3 +4,8 @@ pub mod Words
 pub mod Parting
 pub mod Ends
 pub mod Found
+pub mod Outside
+pub mod Blanked
+pub mod Places
+pub mod Split
+pub mod Breaks

@@ -53,6 +53,10 @@ module _ (p : Mark → Bool) where
       (λ is. ap (λ n. prefix_len p (drop n (m ∷ ms))) (cond-false (p m) (1 + prefix_len p ms) 0 is) ∙ cond-false _ _ _ is)
       (cases_Bool (p m))
 
+  pub all_led : (ms : List Mark) → AllByRecursion (λ m. p m ≡ true) ms → prefix_len p ms ≡ length ms
+  all_led [] h = refl
+  all_led (m ∷ ms) h = cond-true (p m) _ _ h.0 ∙ omega (arith, all_led ms h.1)
+
   -- a front of what begins with no run begins with none
   leading_front : (xs ys : List Mark) → prefix_len p (xs ++ ys) ≡ 0 → prefix_len p xs ≡ 0
   leading_front [] ys h = refl
@@ -62,7 +66,7 @@ module _ (p : Mark → Bool) where
       (λ is. cond-false _ _ _ is)
       (cases_Bool (p x))
 
-  ending_rest : (xs ys : List Mark) → suffix_len p (xs ++ ys) ≡ 0 → suffix_len p ys ≡ 0
+  pub ending_rest : (xs ys : List Mark) → suffix_len p (xs ++ ys) ≡ 0 → suffix_len p ys ≡ 0
   ending_rest xs ys h = leading_front (reverse ys) (reverse xs) (ap (prefix_len p) (sym (reverse-append xs ys)) ∙ h)
 
 abbrev pub Passes : Run → List Mark → Type 0
@@ -139,7 +143,7 @@ module _ (run : Run) (bs : List ℕ) (lead n : ℕ) (leads : prefix_len (passes 
   core-marks : marks (leaves false (take lead bs)) (take n (drop lead bs)) ≡ take n (drop lead (marks false bs))
   core-marks = marks-take n (leaves false (take lead bs)) (drop lead bs) ∙ ap (take n) (marks-drop lead false bs)
 
-  first : prefix_len (passes run) (marks (leaves false (take lead bs)) (take n (drop lead bs))) ≡ 0
+  pub first : prefix_len (passes run) (marks (leaves false (take lead bs)) (take n (drop lead bs))) ≡ 0
   first =
       let ks = drop lead (marks false bs) in
       ap (prefix_len (passes run)) core-marks
@@ -179,7 +183,7 @@ trims run p bs = around run bs (prefix_len (passes run) (marks false bs)) (edge 
 
 -- one byte more that is no slash
 module _ (part : List ℕ) (s : Bool) (b : ℕ) (at : leaves false part ≡ s) where
-  leaves-push : leaves false (part ++ b ∷ []) ≡ after s b
+  pub leaves-push : leaves false (part ++ b ∷ []) ≡ after s b
   leaves-push = leaves-append false part (b ∷ []) ∙ ap (λ t. after t b) at
 
   uncut_push : Reads Stretch false part → is_slash (mark_of s b) ≡ false → Reads Stretch false (part ++ b ∷ [])

@@ -1,5 +1,6 @@
 -- The first word, off the front. Assumes nothing.
 use Rattle.std.proofs.Common.{◌≡◌, ℕ, zero, suc, ◌+◌, ◌<◌, Bool, true, false, List, [], ◌∷◌, length, drop, refl, subst, ⊎_elim, arith}
+use Rattle.items.proofs.Outside.{inked_outside}
 use Rattle.items.specs.declared.mark.Mark.{Mark}
 use Rattle.items.specs.declared.mark.Mark.TheVariants.{Blank, Slash, Text}
 use Rattle.items.specs.declared.mark.Run.TheVariants.{Blanks, Word}
@@ -12,11 +13,6 @@ inks : (m : Mark) → passes Blanks m ≡ false → passes Word m ≡ true
 inks Blank is = absurd (true≢false is)
 inks Slash is = refl
 inks Text is = refl
-
--- which stands outside comments
-pub ink_outside : (s : Bool) (b : ℕ) → passes Blanks (mark_of s b) ≡ false → s ≡ false
-ink_outside true b is = absurd (true≢false is)
-ink_outside false b is = refl
 
 module _ (s : Bool) (b : ℕ) (bs : List ℕ) where
   blank_on : passes Blanks (mark_of s b) ≡ true → prefix_len (passes Blanks) (marks s (b ∷ bs)) ≡ 1 + prefix_len (passes Blanks) (marks (after s b) bs)
@@ -32,7 +28,7 @@ word_begins s (b ∷ bs) zero h lt =
     ⊎_elim
     (λ is. absurd (omega (arith, blank_on s b bs is)))
     (λ is.
-    let ink : passes Blanks (mark_of false b) ≡ false = subst (λ t. passes Blanks (mark_of t b) ≡ false) (ink_outside s b is) is in
+    let ink : passes Blanks (mark_of false b) ≡ false = subst (λ t. passes Blanks (mark_of t b) ≡ false) (inked_outside Blanks refl s b is).0 is in
     let more : prefix_len (passes Word) (marks false (b ∷ bs)) ≡ 1 + prefix_len (passes Word) (marks (after false b) bs) = cond-true _ _ _ (inks (mark_of false b) ink) in
     omega arith)
     (cases_Bool (passes Blanks (mark_of s b)))

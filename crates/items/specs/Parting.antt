@@ -5,7 +5,7 @@ use Rattle.items.specs.declared.mark.Run.TheVariants.{Blanks, Loose, Stretch, Wo
 use Rattle.items.specs.Items.{body_items, message_items}
 use Rattle.items.specs.Marks.{after, marks, passes}
 use Rattle.reader.specs.Lines.{Piece}
-use Rattle.items.specs.Words.{first_word}
+use Rattle.items.specs.Words.{first_word, split_item}
 use Rattle.std.specs.List.{suffix_len, prefix_len, AllByRecursion}
 
 -- whether a comment is open behind the bytes, if one is (`inside`) before them
@@ -65,3 +65,27 @@ pub record WordFound (bs : List ℕ) (w : ℕ × (List ℕ × List ℕ)) : Type 
 -- only what is blank has no word
 abbrev pub WordsFound : Type 0
 WordsFound = (bs : List ℕ) → MatchOption (first_word bs) (Reads Blanks false bs) (λ w. WordFound bs w)
+
+-- the item is blanks, its code, blanks, its value, and blanks; no blank stands in the code nor at the value's ends, and one at least between the two
+pub record Halves (bs code value : List ℕ) : Type 0 where
+  pub front : List ℕ
+  pub gap : List ℕ
+  pub back : List ℕ
+  pub whole : bs ≡ front ++ (code ++ (gap ++ (value ++ back)))
+  pub before : Reads Blanks false front
+  pub outside : leaves false front ≡ false
+  pub unbroken : Reads Word false code
+  pub some : 0 < length code
+  pub amid : Reads Blanks false gap
+  pub behind : Reads Blanks (leaves false (gap ++ value)) back
+  pub first : prefix_len (passes Blanks) (marks (leaves false gap) value) ≡ 0
+  pub last : suffix_len (passes Blanks) (marks (leaves false gap) value) ≡ 0
+  pub apart : 0 < length value → 0 < length gap
+
+-- what reads as blank has neither code nor value
+pub data Split (bs : List ℕ) : List ℕ × List ℕ → Type 0 where
+  blank : Reads Blanks false bs → Split bs ([], [])
+  halves : {code value : List ℕ} → Halves bs code value → Split bs (code, value)
+
+abbrev pub ItemsSplit : Type 0
+ItemsSplit = (bs : List ℕ) → Split bs (split_item bs)

@@ -7,5 +7,8 @@ mod mark;
 mod word;
 
 pub use cut::{Item, Items};
-pub use law::{body_lines_are_parted, message_lines_are_parted, words_are_found};
+pub use law::{
+    body_lines_are_parted, comments_read_as_blanks, items_are_split, items_stand_in_the_text,
+    line_breaks_are_slashes, message_lines_are_parted, words_are_found,
+};
 pub use word::{Word, next_word, split_item};

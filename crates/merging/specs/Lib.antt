@@ -1,2 +1,4 @@
 pub mod Headers
 pub mod Merging
+pub mod Order
+pub mod OneLine

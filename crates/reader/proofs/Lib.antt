@@ -1,6 +1,7 @@
 pub mod Scan
+pub mod First
 pub mod Cuts
 pub mod Shifts
 pub mod Joins
-pub mod Behind
 pub mod Told
+pub mod Numbers

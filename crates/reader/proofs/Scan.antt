@@ -7,12 +7,12 @@ use Rattle.std.proofs.lemmas.Bool.{cases_Bool, cond-false, cond-true, eq-eqb, ne
 use Rattle.std.proofs.lemmas.Bool.Decides.{nat_tests}
 use Rattle.reader.specs.Lines.{less_return, last_line, lines_from, lines_of}
 
-less_return-push : (bs : List ℕ) (b : ℕ) → less_return (bs ++ b ∷ []) ≡ cond (eqb b 13) bs (bs ++ b ∷ [])
+pub less_return-push : (bs : List ℕ) (b : ℕ) → less_return (bs ++ b ∷ []) ≡ cond (eqb b 13) bs (bs ++ b ∷ [])
 less_return-push [] b = refl
 less_return-push (x ∷ []) b = elim (eqb b 13) as (λ v. x ∷ cond v [] (b ∷ []) ≡ cond v (x ∷ []) (x ∷ b ∷ [])) [ true ↦ refl | false ↦ refl ]
 less_return-push (x ∷ y ∷ bs) b = ap (λ l. x ∷ l) (less_return-push (y ∷ bs) b) ∙ elim (eqb b 13) as (λ v. x ∷ cond v (y ∷ bs) (y ∷ (bs ++ b ∷ [])) ≡ cond v (x ∷ y ∷ bs) (x ∷ y ∷ (bs ++ b ∷ []))) [ true ↦ refl | false ↦ refl ]
 
-pub last_line-some : (start : ℕ) (bs : List ℕ) → 0 < length bs → last_line start bs ≡ (start, bs) ∷ []
+last_line-some : (start : ℕ) (bs : List ℕ) → 0 < length bs → last_line start bs ≡ (start, bs) ∷ []
 last_line-some start [] h = absurd (omega arith)
 last_line-some start (b ∷ bs) h = refl
 
@@ -49,7 +49,7 @@ module _ (p : ℕ) (xs : List ℕ) where
 
 -- the carriage return before the line feed
 module _ (xs : List ℕ) (some : 0 < length xs) where
-  last : xs ≡ take (length xs - 1) xs ++ get_or xs (length xs - 1) 0 ∷ []
+  pub last : xs ≡ take (length xs - 1) xs ++ get_or xs (length xs - 1) 0 ∷ []
   last =
       let back : length xs ≡ length xs - 1 + 1 = omega arith in
       sym (take_all (length xs) xs (omega arith)) ∙ ap (λ n. take n xs) back ∙ take_more xs (length xs - 1) 0 (omega arith)

@@ -1,10 +1,10 @@
--- How a line's beginning tells its kind. Assumes nothing.
-use Rattle.std.proofs.Common.{◌≡◌, ℕ, ◌+◌, ◌-◌, ◌*◌, Bool, true, false, cond, ◌&&◌, eqb, List, [], ◌∷◌, ◌++◌, length, get_or, drop, Some, None, refl, ap, ◌∙◌, inl, inr, append-nil, arith}
+-- How a line's beginning tells its kind and its letters. Assumes nothing.
+use Rattle.std.proofs.Common.{◌≡◌, ℕ, Bool, true, false, cond, ◌&&◌, eqb, List, [], ◌∷◌, ◌++◌, length, get_or, take, drop, None, sym, refl, ap, ◌∙◌, subst, inl, inr, append-nil, arith}
 use Rattle.reader.specs.declared.kind.Form.{Form}
 use Rattle.reader.specs.declared.kind.Form.TheVariants.{A, B, E}
 use Rattle.reader.specs.declared.kind.LineKind.TheVariants.{Opening, Continuation, End, Dotted, Other}
 use Rattle.reader.specs.Kinds.{blank_here, continuation_of, ending, figures, is_continuation, kind_of, lettered, letters_of, numbered, placed, revisable}
-use Rattle.reader.specs.Told.{Begins, KindsTold, letter, opener}
+use Rattle.reader.specs.Told.{Begins, EndOrBlank, KindsTold, LettersTold, letter, opener}
 use Rattle.std.proofs.lemmas.List.{drop_at}
 use Rattle.std.proofs.lemmas.Bool.{and_parts, cond_both, cond-false, cond-true, eqb-false, eqb-true}
 use Rattle.std.proofs.lemmas.Bool.Decides.{nat_tests}
@@ -39,7 +39,7 @@ module _ (d : ℕ) (is : digit d ≡ true) where
   no_end : eqb d 78 ≡ false
   no_end = grind (arith, nat_tests)
 
-  no_mark : blank_here d ≡ false
+  pub no_mark : blank_here d ≡ false
   no_mark = grind (arith, nat_tests)
 
   counted : (f : Form) (revised : Bool) (bs : List ℕ) → numbered f revised (d ∷ bs) ≡ Continuation f revised
@@ -64,13 +64,13 @@ module _ (d : ℕ) (is : digit d ≡ true) where
   letters_are f false bs = cond-false _ _ _ no_revision
   letters_are f true bs = refl
 
-  number_is : (f : Form) (revised : Bool) (bs : List ℕ) (n : ℕ × ℕ) → figures (d ∷ bs) ≡ Some n → continuation_of (opener f revised ++ d ∷ bs) ≡ Some (placed (length (opener f revised)) n)
-  number_is f revised bs n e =
+  -- what the digits and what stands behind them give
+  pub figured : (f : Form) (revised : Bool) (bs : List ℕ) → continuation_of (opener f revised ++ d ∷ bs) ≡ option_map (placed (length (opener f revised))) (figures (d ∷ bs))
+  figured f revised bs =
       let line = opener f revised ++ d ∷ bs in
       ap (λ k. cond (is_continuation k) (option_map (placed (letters_of line)) (figures (drop (letters_of line) line))) None) (continues f revised bs)
       ∙ ap (λ k. option_map (placed k) (figures (drop k line))) (letters_are f revised bs)
       ∙ ap (λ l. option_map (placed (length (opener f revised))) (figures l)) (drop_at (opener f revised) (d ∷ bs) (length (opener f revised)) refl)
-      ∙ ap (option_map (placed (length (opener f revised)))) e
 
 -- what a line's kind says of its beginning
 begins-numbered : (f : Form) (revised : Bool) (line bs : List ℕ) → line ≡ opener f revised ++ bs → Begins Dotted line → Begins (numbered f revised bs) line
@@ -108,7 +108,7 @@ begins-lettered line (b ∷ bs) e =
     (λ is. begins-revisable B line bs (lead 66 is))
     (λ _. cond_both (eqb b 69) (ending bs) Dotted (λ k. Begins k line) (λ is. begins-ending line bs (lead 69 is)) (λ _. (b ∷ bs, e))))
 
-only : (line : List ℕ) → Begins (kind_of line) line
+pub only : (line : List ℕ) → Begins (kind_of line) line
 only [] = λ bs h. absurd (omega (arith, ap length h))
 only (b ∷ bs) =
     cond_both (eqb b 46) (lettered bs) Other (λ k. Begins k (b ∷ bs))
@@ -121,9 +121,21 @@ kinds_told = record {
   opens = opens;
   continues = λ f revised d bs is. continues d is f revised bs;
   ends = λ bs. refl;
-  one_digit = λ f revised a c bs is blank. number_is a is f revised (c ∷ bs) (a - 48, 1) (cond-true _ _ _ blank ∙ cond-true _ _ _ is);
-  two_digits = λ f revised a b c bs is ib blank.
-      number_is a is f revised (b ∷ c ∷ bs) ((a - 48) * 10 + (b - 48), 2)
-      (cond-false _ _ _ (no_mark b ib) ∙ cond-true _ _ _ blank ∙ ap (option_map (λ n. (n, 2))) (cond-true (digit a && digit b) (Some ((a - 48) * 10 + (b - 48))) None (ap (λ v. v && digit b) is ∙ ib)));
   only = only;
 }
+
+-- what an opening's letters are, and what stands behind them
+abbrev Lettered : Form → Bool → List ℕ → Type 0
+Lettered f revised line = (take (letters_of line) line ≡ opener f revised) × EndOrBlank (drop (letters_of line) line)
+
+pub letters_told : LettersTold
+letters_told line f false e =
+    elim (subst (λ k. Begins k line) e (only line)) [
+      | inl is ↦ subst (Lettered f false) (sym is) (refl, inl refl)
+      | inr q ↦ subst (Lettered f false) (sym q.1) (refl, inr (q.0, refl))
+    ]
+letters_told line f true e =
+    elim (subst (λ k. Begins k line) e (only line)) [
+      | inl is ↦ subst (Lettered f true) (sym is) (refl, inl refl)
+      | inr q ↦ subst (Lettered f true) (sym q.1) (refl, inr (q.0, refl))
+    ]

@@ -1,16 +1,11 @@
 -- What the lines of a text are, as a relation: it does not say how they are found.
-use Rattle.std.specs.Prelude.{◌≡◌, ℕ, ◌+◌, ◌<◌, List, [], ◌∷◌, ◌++◌, map, length, ◌≢◌}
-use Rattle.std.specs.List.{AllByRecursion}
-use Rattle.reader.specs.Lines.{Piece, less_return, lines, shifted}
+use Rattle.std.specs.Prelude.{◌≡◌, ℕ, ◌+◌, ◌-◌, ◌<◌, List, [], ◌∷◌, ◌++◌, map, length}
+use Rattle.reader.specs.Lines.{FirstLine, Piece, lines, shifted}
 
-abbrev pub NoFeed : List ℕ → Type 0
-NoFeed bs = AllByRecursion (λ b. b ≢ 10) bs
-
--- `Cut p text ls`: ls are the lines of `text`, which begins at p
+-- `Cut p text ls`: ls are the lines of `text`, which begins at p; each next line begins where the end of the one before ends
 pub data Cut : ℕ → List ℕ → List Piece → Type 0 where
   none : {p : ℕ} → Cut p [] []
-  last : {p : ℕ} {line : List ℕ} → NoFeed line → 0 < length line → Cut p line ((p, line) ∷ [])
-  feed : {p : ℕ} (line : List ℕ) {rest : List ℕ} {ls : List Piece} → NoFeed line → Cut (p + length line + 1) rest ls → Cut p (line ++ 10 ∷ rest) ((p, less_return line) ∷ ls)
+  more : {p : ℕ} {text line rest : List ℕ} {ls : List Piece} → 0 < length text → FirstLine text line rest → Cut (p + (length text - length rest)) rest ls → Cut p text ((p, line) ∷ ls)
 
 abbrev pub LinesCut : Type 0
 LinesCut = (text : List ℕ) → Cut 0 text (lines text)

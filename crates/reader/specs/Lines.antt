@@ -1,12 +1,27 @@
 -- The lines of a text.
-use Rattle.std.specs.Prelude.{◌≡◌, ℕ, ◌+◌, ◌-◌, ◌^◌, ◌<◌, ◌≤◌, cond, List, [], ◌∷◌, ◌++◌, length, drop, Option, MatchOption, ◌==◌, slice_index}
-use Rattle.std.specs.List.{between}
+use Rattle.std.specs.Prelude.{◌≡◌, ℕ, ◌+◌, ◌-◌, ◌^◌, ◌<◌, ◌≤◌, cond, List, [], ◌∷◌, ◌++◌, length, drop, Option, MatchOption, ◌==◌, slice_index, ◌≢◌}
+use Rattle.std.specs.List.{AllByRecursion, between}
 use Rattle.reader.specs.declared.split.Line.{Line}
 use Rattle.reader.specs.declared.split.Lines.{Lines}
 
 -- some bytes and where they begin
 abbrev pub Piece : Type 0
 Piece = ℕ × List ℕ
+
+-- no line feed (10) among the bytes
+abbrev pub NoFeed : List ℕ → Type 0
+NoFeed bs = AllByRecursion (λ b. b ≢ 10) bs
+
+-- no carriage return (13) at their end
+abbrev pub NoReturn : List ℕ → Type 0
+NoReturn bs = (front : List ℕ) → bs ≢ front ++ 13 ∷ []
+
+-- `FirstLine text line rest`: `line` stands before the first end of a line, which is a line feed, a carriage return and a line feed,
+-- or the text's end, and `rest` behind it
+pub data FirstLine : List ℕ → List ℕ → List ℕ → Type 0 where
+  last : {line : List ℕ} → NoFeed line → FirstLine line line []
+  feed : {line rest : List ℕ} → NoFeed line → NoReturn line → FirstLine (line ++ 10 ∷ rest) line rest
+  return_feed : {line rest : List ℕ} → NoFeed line → FirstLine (line ++ 13 ∷ 10 ∷ rest) line rest
 
 -- bs less a carriage return at its end
 abbrev pub less_return : List ℕ → List ℕ
@@ -39,6 +54,10 @@ shifted base l = (base + l.0, l.1)
 abbrev pub lines_at : ℕ → List ℕ → List Piece
 lines_at pos text = lines_from pos [] (drop pos text)
 
+-- what a reader has not read yet
+abbrev pub rest_of : Lines → List ℕ
+rest_of r = drop r.pos r.text.now
+
 -- the lines that a reader has yet to give
 abbrev pub lines_ahead : Lines → List Piece
 lines_ahead r = lines_at r.pos r.text.now
@@ -50,6 +69,7 @@ line_piece l = (l.place, l.part.now)
 -- the reader then stands behind a line feed, or at the text's end
 pub record GivesLine (r : Lines) (l : Line) (s : Lines) : Type 0 where
   pub next : lines_ahead r ≡ line_piece l ∷ lines_ahead s
+  pub first : FirstLine (rest_of r) l.part.now (rest_of s)
   pub stands : l.part.now ≡ between l.place (l.place + length l.part.now) r.text.now
   pub within : l.place + length l.part.now ≤ length r.text.now
   pub fits : l.place + length l.part.now < 2 ^ 64

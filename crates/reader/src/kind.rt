@@ -1,7 +1,7 @@
 // What a line is by how it begins, the number of a continuation, and which lines may be read at all.
 ghost use Rattle.std.specs.Prelude.{◌≡◌, ◌<◌, ◌≤◌, length, drop, IfSome};
 ghost use Rattle.reader.specs.Kinds.{all_printable, blank_here, continuation_of, ending, figures, kind_of, lettered, letters_of, numbered, placed, readable, revisable};
-ghost use Rattle.reader.specs.Told.{KindsTold};
+ghost use Rattle.reader.specs.Told.{KindsTold, LettersTold, NumbersTold};
 ghost use Rattle.std.specs.Option.{option_map};
 
 use text::{is_digit, two_digits};
@@ -142,7 +142,10 @@ fn is_printable(line: &[u8]) -> bool
     line.iter().all(|b| matches!(*b, 32..=126))
 }
 
-// States how a line's beginning tells its kind and its number, and that no line of a kind begins otherwise.
+// States how a line's beginning tells its kind, its letters and its number, and that no line of a kind, and none with a number, begins
+// otherwise.
 pub fn kinds_are_told()
-    ensures { KindsTold }
+    ensures kinds { KindsTold }
+    ensures letters { LettersTold }
+    ensures numbers { NumbersTold }
 {}

@@ -1,7 +1,7 @@
 // How the lines of a text are found.
 ghost use Rattle.std.specs.Prelude.{◌≡◌, ◌+◌, ◌^◌, ◌≤◌, ◌==◌, length, position, MatchOption};
 ghost use Rattle.reader.specs.Cut.{LinesCut, LinesJoin};
-ghost use Rattle.reader.specs.Lines.{LineStep, less_return, line_piece, lines, lines_ahead};
+ghost use Rattle.reader.specs.Lines.{LineStep, less_return, line_piece, lines, lines_ahead, rest_of};
 ghost use Rattle.std.specs.Iterator.{YieldsFirstBy, item_count};
 
 use super::{Line, Lines};
@@ -39,9 +39,18 @@ impl<'a> Line<'a> {
 impl<'a> Lines<'a> {
     pub fn new(text: &'a [u8]) -> Lines<'a>
         ensures whole { lines_ahead result ≡ lines text.now }
+        ensures rest { rest_of result ≡ text.now }
         ensures same { result.text.now ≡ text.now }
     {
         Lines { text, pos: 0 }
+    }
+
+    // The text behind the lines that were read.
+    pub fn rest(&self) -> &'a [u8]
+        ensures { result.now ≡ rest_of self.now }
+    {
+        let (_, rest) = self.text.split_at(self.pos);
+        rest
     }
 
     pub fn next_line(&mut self) -> Option<Line<'a>>

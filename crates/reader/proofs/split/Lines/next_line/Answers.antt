@@ -1,8 +1,9 @@
 use Rattle.std.proofs.Common.{◌≡◌, ℕ, ◌+◌, ◌-◌, ◌≤◌, eqb, List, [], ◌∷◌, length, get_or, take, drop, sym, refl, ap, ◌∙◌, subst, arith}
-use Rattle.std.proofs.lemmas.List.{at_drop_all, drop-drop, get_or-drop, length-take-le, take_all, take-take}
+use Rattle.std.proofs.lemmas.List.{at_drop_all, drop_all, drop-drop, get_or-drop, length-take-le, take_all, take-take}
 use Rattle.std.proofs.lemmas.List.Quantifiers.{position-Some}
 use Rattle.std.proofs.lemmas.Bool.{eqb-false, eqb-true}
-use Rattle.reader.specs.Lines.{lines_from, lines_of}
+use Rattle.reader.specs.Lines.{FirstLine, less_return, lines_from, lines_of}
+use Rattle.reader.proofs.First.{first_at_end, first_at_feed}
 use Rattle.reader.proofs.Scan.{at_end, at_feed, front_stands, return_front, return_le}
 use Rattle.reader.proofs.split.Lines.next_line.Goals as goal
 
@@ -19,13 +20,17 @@ returns-in-Some c =
     let on : c.args.self.now.pos + (c.in-Some.len + 1) ≡ c.args.self.now.pos + c.in-Some.len + 1 = omega arith in
     let fits : c.in-Some.len ≤ length c.split_at.result.1.now = omega (arith, found.0) in
     let short : length c.less_return-part.result.now ≤ c.in-Some.len = omega (arith, ap length c.less_return-part.ensures, return_le (take c.in-Some.len c.split_at.result.1.now), length-take-le c.in-Some.len c.split_at.result.1.now fits) in
+    let behind : drop (c.in-Some.len + 1) c.split_at.result.1.now ≡ drop (c.args.self.now.pos + c.in-Some.len + 1) c.args.self.now.text.now = ap (drop (n + 1)) left ∙ drop-drop (n + 1) pos text ∙ ap (λ k. drop k text) on in
     let front : c.less_return-part.result.now ≡ take (length c.less_return-part.result.now) c.split_at.result.1.now =
     subst (λ l. l ≡ take (length l) (take n rest)) (sym c.less_return-part.ensures) (return_front (take n rest)) ∙ take-take (length part) n rest short
     in (
       refl,
       record {
         next = ap (lines_of pos) (sym left) ∙ at_feed pos rest n (sym c.in-Some.is ∙ c.line_end.ensures) ∙ ap (λ l. (pos, l) ∷ lines_of (pos + n + 1) (drop (n + 1) rest)) (sym c.less_return-part.ensures)
-            ∙ ap (λ l. (pos, part) ∷ lines_of (pos + n + 1) l) (ap (drop (n + 1)) left ∙ drop-drop (n + 1) pos text ∙ ap (λ k. drop k text) on);
+            ∙ ap (λ l. (pos, part) ∷ lines_of (pos + n + 1) l) behind;
+        first = subst (λ t. FirstLine t part (drop (pos + n + 1) text)) left
+            (subst (λ l. FirstLine rest l (drop (pos + n + 1) text)) (sym c.less_return-part.ensures)
+            (subst (λ r. FirstLine rest (less_return (take n rest)) r) behind (first_at_feed rest n (sym c.in-Some.is ∙ c.line_end.ensures))));
         stands = front_stands text rest part pos left front;
         within = omega (arith, c.split_at.ensures.back_len, found.0);
         fits = omega (arith, c.split_at.ensures.back_len, found.0);
@@ -46,6 +51,8 @@ returns-in-None c =
       record {
         next = ap (lines_of pos) (sym left) ∙ at_end pos rest (sym c.in-None.is ∙ c.line_end.ensures) (omega arith)
             ∙ ap (λ l. (pos, rest) ∷ l) (sym (at_drop_all (lines_from (length text) []) text (length text) (omega arith)));
+        first = subst (λ t. FirstLine t rest (drop (length text) text)) left
+            (subst (λ r. FirstLine rest rest r) (sym (drop_all (length text) text (omega arith))) (first_at_end rest (sym c.in-None.is ∙ c.line_end.ensures)));
         stands = front_stands text rest rest pos left (sym (take_all (length rest) rest (omega arith)));
         within = omega (arith, c.split_at.ensures.back_len);
         fits = omega (arith, c.split_at.ensures.back_len);

@@ -1,5 +1,5 @@
 use Rattle.std.proofs.Common.{◌≡◌, ◌+◌, length}
-use Rattle.printing.proofs.show_words.Given as goal
+use Rattle.linetable.proofs.show.show_words.Given as goal
 
 abbrev pub invariant-loop-word : goal.invariant-loop-word
 invariant-loop-word l = l.start + length l.rest ≡ length l.line
