@@ -1,1 +1,3 @@
 pub mod Following
+pub mod Walking
+pub mod Stepping

@@ -1,2 +1,4 @@
 pub mod Follow
 pub mod Own
+pub mod Walks
+pub mod Steps

@@ -11,6 +11,7 @@ ghost use Rattle.record.specs.Entries.{entry as entry_of};
 ghost use Rattle.logging.specs.Follow.{place_of, logs, turn_then, follow};
 ghost use Rattle.std.specs.Option.{option_map};
 
+pub mod laws;
 pub mod parts;
 
 use crate::parts::Parts;

@@ -1,6 +1,7 @@
 -- A text, line after line.
-use Rattle.std.proofs.Common.{◌≡◌, ℕ, ◌+◌, ◌-◌, true, false, cond, List, [], ◌∷◌, ◌++◌, length, take, sym, refl, ap, ◌∙◌, subst, ⊎_elim, append_assoc, arith, length-append}
+use Rattle.std.proofs.Common.{◌≡◌, ℕ, ◌+◌, ◌-◌, true, false, cond, List, [], ◌∷◌, ◌++◌, length, take, sym, refl, ap, ◌∙◌, subst, ⊎_elim, append_assoc, arith, length-append, IfOk, Ok, Err, Result}
 use Rattle.std.proofs.lemmas.Bool.{cond-true, cond-false, cases_Bool, true≢false}
+use Rattle.calendar.specs.Dates.{message_day}
 use Rattle.record.specs.Entries.{Entry}
 use Rattle.reader.specs.Kinds.{kind_of}
 use Rattle.reader.specs.Lines.{Piece}
@@ -12,16 +13,15 @@ use Rattle.refusals.specs.declared.Refusal.{Refusal}
 use Rattle.refusals.specs.declared.Refusal.TheVariants.{CurrentDate, Message, Item, NoRoom}
 use Rattle.sink.specs.Logs.{Log, put, put_all}
 use Rattle.sink.proofs.Puts.{takes_in}
-use Rattle.events.specs.Events.{Event, fault, logged, refused, records}
-use Rattle.events.specs.Passing.{Passed, Stopped, StopsAt, Full, logged_all}
+use Rattle.events.specs.Events.{Event, fault, logged, refused, records, verdict}
+use Rattle.events.specs.Passing.{Comes, Passed, Stopped, StopsAt, Full, logged_all}
 use Rattle.events.specs.Room.{refusals}
-use Rattle.events.proofs.Going.{Going, Done, begun, renamed, passed, refusing, ended, filled}
+use Rattle.events.proofs.Going.{Going, Done, renamed, passed, refusing, filled}
 use Rattle.daylight.specs.Settings.{Setting}
-use Rattle.shef.specs.Answers.{Read}
-use Rattle.shef.specs.Decodes.{counted, ends_here, ending_number}
-use Rattle.shef.specs.declared.decode.Ending.{Ending}
+use Rattle.shef.specs.Answers.{Read, ended_by, ends_reading, noted}
+use Rattle.shef.specs.Decodes.{answer_of, counted, decoded, ends_here, ending_number}
 use Rattle.stages.specs.Stages.{Stage, outside, skipping, header, body, by_kind, next, came, closing, within, is_table}
-use Rattle.shef.specs.Texts.{is_opening, Stretch, on_front, cut, end_of, stretches, to_come}
+use Rattle.shef.specs.Texts.{is_opening, Stretch, on_front, cut, end_of, stretches, to_come, events}
 
 -- an opening acts alike in every stage
 opening_alike : (S : Setting) (σ : Stage) (l : Piece) (k : LineKind) → is_opening k ≡ true → by_kind S outside l k ≡ by_kind S σ l k
@@ -115,28 +115,48 @@ module _ {K : Type 0} {l m n : Log Entry} {f g : Log Fault} {all : List Event} {
       let e : whole k ++ tail ≡ logged_all P.some ++ (rest k ++ tail) = ap (λ (x : List Event). x ++ tail) (P.is k) ∙ append_assoc (logged_all P.some) (rest k) tail in
       record { count = T.count; going = passed P.some (renamed T.going e) P.fits P.put; is = T.is }
 
-stops_refused : {K : Type 0} (r : Refusal) (p : ℕ) (m : Log Entry) (rest : K → List Event) → (r ≡ NoRoom → ⊥) → StopsAt r p m rest → (k : K) → rest k ≡ refused r p ∷ []
+stops_refused : {K : Type 0} (r : Refusal) (p : ℕ) (m : Log Entry) (rest : K → List Event) → ends_reading r ≡ false → StopsAt r p m rest → (k : K) → rest k ≡ refused r p ∷ []
 stops_refused CurrentDate p m rest h s = s
 stops_refused (Message r) p m rest h s = s
 stops_refused (Item r) p m rest h s = s
-stops_refused NoRoom p m rest h s = absurd (h refl)
+stops_refused NoRoom p m rest h s = absurd (true≢false h)
 
-module _ {K : Type 0} {l m n : Log Entry} {f g h : Log Fault} {all : List Event} {found more : ℕ} (whole : K → List Event) (k : K) (tail : List Event) (x : Fault) where
+no_room : (r : Refusal) → ends_reading r ≡ true → r ≡ NoRoom
+no_room CurrentDate h = absurd (true≢false (sym h))
+no_room (Message r) h = absurd (true≢false (sym h))
+no_room (Item r) h = absurd (true≢false (sym h))
+no_room NoRoom h = refl
+
+module _ {K : Type 0} {l m n : Log Entry} {f g : Log Fault} {all : List Event} {found : ℕ} (whole : K → List Event) (k : K) (tail : List Event) (x : Fault) where
   -- a refusal ends its message
-  pub turn_stopped : Turning l m f g all (whole k ++ tail) found → Stopped x m n whole → (x.refusal ≡ NoRoom → ⊥) → h ≡ put g x → more ≡ counted (found + 1) → Turning l n f h all tail more
-  turn_stopped T s room is em =
+  pub turn_stopped : {h : Log Fault} {more : ℕ} → Turning l m f g all (whole k ++ tail) found → Stopped x m n whole → ends_reading x.refusal ≡ false → h ≡ put_all g (noted x) → more ≡ counted (found + length (noted x))
+      → Turning l n f h all tail more
+  turn_stopped {h} {more} T s on is em =
       let T1 : Turning l n f g all (s.rest k ++ tail) found = turn_passed whole k tail T s.passed in
-      let T2 : Turning l n f g all (refused x.refusal x.place ∷ tail) found = turn_renamed T1 (ap (λ (y : List Event). y ++ tail) (stops_refused x.refusal x.place n s.rest room s.stops k)) in
-      turn_refused (refused x.refusal x.place ∷ []) refl T2 is em
+      let T2 : Turning l n f g all (refused x.refusal x.place ∷ tail) found = turn_renamed T1 (ap (λ (y : List Event). y ++ tail) (stops_refused x.refusal x.place n s.rest on s.stops k)) in
+      let at : noted x ≡ x ∷ [] = cond-false (ends_reading x.refusal) [] (x ∷ []) on in
+      turn_refused (refused x.refusal x.place ∷ []) refl T2 (is ∙ ap (put_all g) at) (em ∙ ap (λ (y : List Fault). counted (found + length y)) at)
 
-  -- a record without room ends the reading
-  pub turn_full : Turning l m f g all (whole k ++ tail) found → Stopped x m n whole → x.refusal ≡ NoRoom → h ≡ put g x → more ≡ counted (found + 1) → (j : ℕ) × Done l n f h all 14 j × (more ≡ counted j)
-  turn_full T s room is em =
-      let T1 : Turning l n f g all (s.rest k ++ tail) found = turn_passed whole k tail T s.passed in
+  -- a record without room ends the reading, and its fault is left to be put
+  pub turn_full : {h : Log Fault} {more : ℕ} → Turning l m f g all (whole k ++ tail) found → Stopped x m n whole → ends_reading x.refusal ≡ true → h ≡ put_all g (noted x) → more ≡ counted (found + length (noted x))
+      → (j : ℕ) × Done l n f (put h x) all 14 j × (counted (more + 1) ≡ counted j)
+  turn_full {h} {more} T s ends is em =
+      let room = no_room x.refusal ends in
+      let at : noted x ≡ [] = cond-true (ends_reading x.refusal) [] (x ∷ []) ends in
+      let T0 : Turning l m f h all (whole k ++ tail) more = turn_refused [] refl T (is ∙ ap (put_all g) at) (em ∙ ap (λ (y : List Fault). counted (found + length y)) at) in
+      let T1 : Turning l n f h all (s.rest k ++ tail) more = turn_passed whole k tail T0 s.passed in
       let full : Full n x.place s.rest = subst (λ (r : Refusal). StopsAt r x.place n s.rest) room s.stops in
-      let G : Going l n f g all (logged x.place full.next ∷ (full.tail k ++ tail)) T1.count = renamed T1.going (ap (λ (y : List Event). y ++ tail) (full.is k)) in
-      let put_is : h ≡ put g (fault NoRoom x.place) = is ∙ ap (λ (r : Refusal). put g (fault r x.place)) room in
-      (T1.count + 1, filled G full.none put_is, em ∙ ap (λ y. counted (y + 1)) T1.is ∙ counts_on T1.count 1)
+      let G : Going l n f h all (logged x.place full.next ∷ (full.tail k ++ tail)) T1.count = renamed T1.going (ap (λ (y : List Event). y ++ tail) (full.is k)) in
+      (T1.count + 1, filled G full.none (ap (λ (r : Refusal). put h (fault r x.place)) room), ap (λ y. counted (y + 1)) T1.is ∙ counts_on T1.count 1)
+
+-- a line that is not refused
+pub came_on : {K : Type 0} (r : Result (Unit {0}) Fault) {l m : Log Entry} {whole rest : K → List Event} → ((f : Fault) → r ≡ Err f → ⊥) → Comes r l m whole (λ _. rest) → Passed l m whole rest
+came_on (Ok u) h c = c
+came_on (Err f) h c = absurd (h f refl)
+
+pub holds_on : (r : Result (Unit {0}) Fault) {P : Type 0} → ((f : Fault) → r ≡ Err f → ⊥) → IfOk r (λ _. P) → P
+holds_on (Ok u) h p = p
+holds_on (Err f) h p = absurd (h f refl)
 
 -- how many records went in
 pub sent_is : (l m : Log Entry) (xs : List Entry) → m ≡ put_all l xs → length m.entries - length l.entries ≡ length (take l.room xs)
@@ -144,10 +164,13 @@ sent_is l m xs e =
     let d : length m.entries ≡ length (l.entries ++ take l.room xs) = ap (λ (x : Log Entry). length x.entries) (e ∙ takes_in Entry l.entries l.room xs) in
     omega (arith, d, length-append l.entries (take l.room xs))
 
-pub read_from : {l m : Log Entry} {f g : Log Fault} {all : List Event} {number k found : ℕ} (e : Ending) → Done l m f g all number k → ending_number e ≡ number → found ≡ counted k → Read l m f g all e found
-read_from e D en ef = record {
-  sink = D.sink;
-  list = D.faults;
-  number = en ∙ D.answers;
-  all = ef ∙ ap counted D.seen;
-}
+-- under a day of 1900 to 2099 a text comes to its events
+module _ (S : Setting) (text : List ℕ) {l m : Log Entry} {f g : Log Fault} {found : ℕ} (day : message_day S.today ≡ true) where
+  read_on : {r : Result (Unit {0}) Fault} → Read l m f g (events S text) (verdict l.room (events S text)) r found → Read l m f g (decoded S text) (answer_of S l.room text) r found
+  read_on {r} R =
+      let R1 : Read l m f g (decoded S text) (verdict l.room (events S text)) r found = subst (λ (es : List Event). Read l m f g es (verdict l.room (events S text)) r found) (sym (cond-true (message_day S.today) _ _ day)) R in
+      subst (λ (n : ℕ). Read l m f g (decoded S text) n r found) (sym (cond-true (message_day S.today) _ _ day)) R1
+
+  -- a fault ends the reading
+  pub read_up_to : (x : Fault) (j : ℕ) → ends_reading x.refusal ≡ true → Done l m f (put g x) (events S text) 14 j → counted (found + 1) ≡ counted j → Read l m f g (decoded S text) (answer_of S l.room text) (Err x) found
+  read_up_to x j ends D e = read_on (record { sink = D.sink; list = D.faults; number = ap (λ r. ending_number (ended_by r)) (no_room x.refusal ends) ∙ D.answers; all = e ∙ ap counted D.seen })

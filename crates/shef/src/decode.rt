@@ -1,14 +1,16 @@
 // Decoding a text into a sink.
-ghost use Rattle.std.specs.Prelude.{◌≡◌, ◌+◌, ◌^◌, ◌<◌, length};
-ghost use Rattle.events.specs.Events.{met, records};
+ghost use Rattle.std.specs.Prelude.{◌≡◌, ◌+◌, ◌^◌, ◌<◌, true, false, length, MatchResult};
+ghost use Rattle.calendar.specs.Dates.{message_day};
+ghost use Rattle.events.specs.Events.{fault as fault_at, met, records};
 ghost use Rattle.events.specs.Room.{refusals};
 ghost use Rattle.daylight.specs.Settings.{setting, told};
 ghost use Rattle.reader.specs.Lines.{line_piece};
 ghost use Rattle.shef.specs.Decodes.{answer_of, counted, decoded, delivered as delivered_of, ending_number, ends_here};
+ghost use Rattle.refusals.specs.declared.Refusal.TheVariants as refusal;
 ghost use Rattle.stages.specs.Machines.{stage_of};
-ghost use Rattle.shef.specs.Answers.{Read};
+ghost use Rattle.shef.specs.Answers.{Read, ending_of, ends_reading, last_of, noted};
 ghost use Rattle.stages.specs.Stages.{closing};
-ghost use Rattle.shef.specs.Texts.{events, is_opening};
+ghost use Rattle.shef.specs.Texts.{is_opening};
 ghost use Rattle.sink.specs.Logs.{of_slots, put, put_all};
 ghost use Rattle.sink.specs.Tables.{Grown};
 
@@ -33,6 +35,22 @@ pub enum Ending {
 }
 
 impl Ending {
+    // How a reading ends that comes through, or hands on the fault that ends it: no day, or no room.
+    fn of(read: Result<(), Fault>) -> Ending
+        ensures { result ≡ ending_of read }
+    {
+        match read {
+            Ok(()) => Ending::Whole,
+            Err(
+                Fault {
+                    refusal: Refusal::CurrentDate,
+                    ..
+                },
+            ) => Ending::NoDay,
+            Err(_) => Ending::NoRoom,
+        }
+    }
+
     // The number by which users know it.
     pub fn number(self) -> u8
         ensures { result ≡ ending_number self }
@@ -78,6 +96,35 @@ impl<'l, 'a> Refused<'l, 'a> {
     {
         let _ = self.list.push(fault);
         self.found = self.found.saturating_add(1);
+    }
+
+    // A fault ends its message and is reported; one that ends the whole reading goes up.
+    fn note(&mut self, fault: Fault) -> Result<(), Fault>
+        ensures cases { MatchResult result (λ _. ends_reading fault.refusal ≡ false) (λ f. (f ≡ fault) × (ends_reading fault.refusal ≡ true)) }
+        ensures list { of_slots self.new.list.now ≡ put_all (of_slots self.old.list.now) (noted fault) }
+        ensures frame { Grown self.old.list.now self.new.list.now }
+        ensures count { self.new.found ≡ counted (self.old.found + length (noted fault)) }
+        ensures lent { self.new.list.ghost_name ≡ self.old.list.ghost_name }
+    {
+        match fault.refusal {
+            Refusal::NoRoom => Err(fault),
+            _ => {
+                self.report(fault);
+                Ok(())
+            }
+        }
+    }
+
+    // The fault that ended a reading, if one did.
+    fn report_last(&mut self, read: Result<(), Fault>)
+        ensures list { of_slots self.new.list.now ≡ put_all (of_slots self.old.list.now) (last_of read) }
+        ensures frame { Grown self.old.list.now self.new.list.now }
+        ensures count { self.new.found ≡ counted (self.old.found + length (last_of read)) }
+        ensures lent { self.new.list.ghost_name ≡ self.old.list.ghost_name }
+    {
+        if let Err(fault) = read {
+            self.report(fault);
+        }
     }
 
     // A table that is still open is refused at a place.
@@ -127,63 +174,49 @@ pub fn decode<S: Sink, R: Rule>(
         list: faults,
         found: 0,
     };
-    let ending = read_dated(text, &setting, sink, &mut refused);
-    let delivered = sink.count().saturating_sub(held);
+    let read = read_text(text, &setting, sink, &mut refused);
+    refused.report_last(read);
     Answer {
-        ending,
-        delivered,
+        ending: Ending::of(read),
+        delivered: sink.count().saturating_sub(held),
         found: refused.found,
     }
 }
 
-// A current date that is no day of 1900 to 2099 is refused, and nothing is read.
-fn read_dated<S: Sink, R: Rule>(
-    text: &[u8],
-    setting: &Setting<'_, R>,
-    sink: &mut S,
-    refused: &mut Refused<'_, '_>,
-) -> Ending
-    requires { refused.old.found ≡ 0 }
-    ensures sink { S.Sink.holds sink.new ≡ put_all (S.Sink.holds sink.old) (records (decoded (told R.daylight setting.now) text.now)) }
-    ensures list { of_slots refused.new.list.now ≡ put_all (of_slots refused.old.list.now) (met (S.Sink.holds sink.old).room (decoded (told R.daylight setting.now) text.now)) }
-    ensures number { ending_number result ≡ answer_of (told R.daylight setting.now) (S.Sink.holds sink.old).room text.now }
-    ensures found { refused.new.found ≡ counted (length (met (S.Sink.holds sink.old).room (decoded (told R.daylight setting.now) text.now))) }
-    ensures frame { (S.Sink.frame sink.old sink.new) × (Grown refused.old.list.now refused.new.list.now) }
-    ensures lent { refused.new.list.ghost_name ≡ refused.old.list.ghost_name }
+// Under a current date that is no day of 1900 to 2099 nothing is read.
+fn dated(today: Date) -> Result<(), Fault>
+    ensures { MatchResult result (λ _. message_day today ≡ true) (λ f. (message_day today ≡ false) × (f ≡ fault_at refusal.CurrentDate 0)) }
 {
-    if !setting.today.is_message_day() {
-        refused.report(Refusal::CurrentDate.at(0));
-        return Ending::NoDay;
+    if today.is_message_day() {
+        Ok(())
+    } else {
+        Err(Refusal::CurrentDate.at(0))
     }
-    read_text(text, setting, sink, refused)
 }
 
+// Reads line after line, up to the text's end or the fault that ends the whole reading. Any other ends its message, and the lines up to
+// the next opening are skipped.
 fn read_text<S: Sink, R: Rule>(
     text: &[u8],
     setting: &Setting<'_, R>,
     sink: &mut S,
     refused: &mut Refused<'_, '_>,
-) -> Ending
+) -> Result<(), Fault>
     requires { refused.old.found ≡ 0 }
-    ensures done { Read (S.Sink.holds sink.old) (S.Sink.holds sink.new) (of_slots refused.old.list.now) (of_slots refused.new.list.now) (events (told R.daylight setting.now) text.now) result refused.new.found }
+    ensures done { Read (S.Sink.holds sink.old) (S.Sink.holds sink.new) (of_slots refused.old.list.now) (of_slots refused.new.list.now) (decoded (told R.daylight setting.now) text.now) (answer_of (told R.daylight setting.now) (S.Sink.holds sink.old).room text.now) result refused.new.found }
     ensures frame { (S.Sink.frame sink.old sink.new) × (Grown refused.old.list.now refused.new.list.now) }
     ensures lent { refused.new.list.ghost_name ≡ refused.old.list.ghost_name }
 {
+    dated(setting.today)?;
     let mut machine = Machine::new(text);
     let mut lines = Lines::new(text);
     while let Some(line) = lines.next_line() {
         refused.close_before(&machine, line);
-        match machine.take_line(line, lines, setting, sink) {
-            Ok(()) => {}
-            Err(fault) => {
-                refused.report(fault);
-                if let Refusal::NoRoom = fault.refusal {
-                    return Ending::NoRoom;
-                }
-                machine.skip();
-            }
+        if let Err(fault) = machine.take_line(line, lines, setting, sink) {
+            refused.note(fault)?;
+            machine.skip();
         }
     }
     refused.close_at(&machine, text.len());
-    Ending::Whole
+    Ok(())
 }

@@ -1,8 +1,8 @@
 -- What a line comes to, from what it does.
-use Rattle.std.proofs.Common.{◌≡◌, ℕ, zero, suc, ◌+◌, Bool, true, false, ◌&&◌, eqb, List, [], ◌∷◌, ◌++◌, take, drop, is_some, IfOk, IfErr, Some, None, Ok, Err, Option, Result, sym, refl, ap, ◌∙◌, subst, ⊎_elim, append_assoc, append-nil, arith, MatchOption}
+use Rattle.std.proofs.Common.{◌≡◌, ℕ, zero, suc, ◌+◌, Bool, true, false, ◌&&◌, eqb, List, [], ◌∷◌, ◌++◌, take, drop, is_some, Some, None, Ok, Err, Option, sym, refl, ap, ◌∙◌, subst, ⊎_elim, append_assoc, append-nil, arith, MatchOption}
 use Rattle.std.proofs.lemmas.Bool.{cond-true, cond-false, cases_Bool, true≢false, eq-eqb, ne_eqb}
 use Rattle.std.specs.Option.{option_map}
-use Rattle.reader.specs.Kinds.{continuation_of}
+use Rattle.reader.specs.Kinds.{continuation_of, kind_of}
 use Rattle.reader.specs.declared.kind.Continuation.{Continuation as Number}
 use Rattle.std.specs.List.{flat_map}
 use Rattle.merging.specs.Headers.{continued_items, header_items}
@@ -23,11 +23,10 @@ use Rattle.refusals.specs.declared.Refusal.TheVariants.{Message}
 use Rattle.sink.specs.Logs.{Log}
 use Rattle.terms.specs.Standing.{Standing}
 use Rattle.events.specs.Events.{Event, fault, refused}
-use Rattle.events.specs.Passing.{Passed, StopsAt, Stopped, Comes}
+use Rattle.events.specs.Passing.{Passed, StopsAt, Stopped}
 use Rattle.items.specs.Words.{first_word}
 use Rattle.reader.specs.declared.kind.LineKind.{LineKind}
-use Rattle.reader.specs.declared.kind.LineKind.TheVariants.{Opening, Continuation, End, Dotted, Other}
-use Rattle.stages.specs.Told.{told}
+use Rattle.reader.specs.declared.kind.LineKind.TheVariants.{Dotted}
 use Rattle.events.proofs.Passes.{nothing, same, pulled, pulled_stopped, renamed, renamed_stopped}
 use Rattle.daylight.specs.Settings.{Setting}
 use Rattle.messages.specs.Models.{Common, Reached, fresh}
@@ -35,7 +34,7 @@ use Rattle.logging.specs.Follow.{follow}
 use Rattle.logging.specs.Own.{own_items}
 use Rattle.openings.proofs.Saying.{Says}
 use Rattle.openings.specs.Openings.{Opened, field, opened}
-use Rattle.stages.specs.Stages.{Stage, body, header, Moved, onto, reads, refuses, came, opens_to, begins, continues_as, continues, of_station, line_of, body_line, same_form, same_bool, follows, in_body, by_kind, in_stage, outside}
+use Rattle.stages.specs.Stages.{Stage, body, header, Moved, onto, reads, refuses, came, opens_to, begins, continues_as, continues, of_station, line_of, body_line, same_form, same_bool, follows, by_kind, next, is_table}
 
 stops_says : {K : Type 0} (x : Fault) (m : Log Entry) (rest : K → List Event) → Says x → ((k : K) → rest k ≡ refused x.refusal x.place ∷ []) → StopsAt x.refusal x.place m rest
 stops_says {K} x m rest says h =
@@ -143,33 +142,13 @@ header_more items n ls l rest e =
 pub tied_more : (n : ℕ) (ls : List Piece) (l : Piece) (rest : List Piece) → drop n ls ≡ l ∷ rest → drop (n + 1) ls ≡ rest
 tied_more n ls l rest e = (take_next n ls l rest e).1
 
--- a table's body refuses what is neither a plain line nor .END
-pub in_body_refuses : (m : Common) (t : Standing) (hs : List Piece) (l : Piece) (k : LineKind) → (k ≡ Other → ⊥) → (k ≡ End → ⊥) → in_body m t hs l k ≡ refuses (fault (Message why.Unfinished) l.0)
-in_body_refuses m t hs l (Opening f v) a b = refl
-in_body_refuses m t hs l (Continuation f v) a b = refl
-in_body_refuses m t hs l End a b = absurd (b refl)
-in_body_refuses m t hs l Dotted a b = refl
-in_body_refuses m t hs l Other a b = absurd (a refl)
+-- a row of the table: a line of one kind in one stage
+pub at_row : (S : Setting) (l : Piece) {σ τ : Stage} {k : LineKind} → k ≡ kind_of l.1 → σ ≡ τ → next S σ l ≡ by_kind S τ l k
+at_row S l {σ} {τ} {k} ek eσ = ap (by_kind S σ l) (sym ek) ∙ ap (λ x. by_kind S x l k) eσ
 
--- a line that is no opening acts by the stage
-pub no_opening : (S : Setting) (σ : Stage) (l : Piece) (k : LineKind) → ((f : Form) (v : Bool) → k ≡ Opening f v → ⊥) → by_kind S σ l k ≡ in_stage σ l k
-no_opening S σ l (Opening f v) h = absurd (h f v refl)
-no_opening S σ l (Continuation f v) h = refl
-no_opening S σ l End h = refl
-no_opening S σ l Dotted h = refl
-no_opening S σ l Other h = refl
-
-pub comes_as : (S : Setting) (r : Result (Unit {0}) Fault) (l m : Log Entry) (rest : Unit {0} → (Stage → List Event) → List Event) {X Y : Moved} → X ≡ Y → Comes r l m (came S X) rest → Comes r l m (came S Y) rest
-comes_as S r l m rest e = subst (λ Z. Comes r l m (came S Z) rest) e
-
--- outside messages
-pub outside_comes : (S : Setting) (l : Log Entry) (X : Moved) (σ : Stage) (r : Result (Unit {0}) Fault) → told outside r ≡ X → outside ≡ σ → IfErr r (λ f. f.refusal ≡ Message why.Continuation) → Comes r l l (came S X) (λ _ k. k σ)
-outside_comes S l X σ (Ok u) e eσ s = same (line_onto S outside (sym e)) (λ k. ap k eσ)
-outside_comes S l X σ (Err f) e eσ s = line_refused S f (sym e) (why.Continuation, s)
-
-pub made_any : (r : Result (Unit {0}) Fault) (P : Type 0) → P → IfOk r (λ _. P)
-made_any (Ok u) P p = p
-made_any (Err f) P p = tt
+-- no table's header stands before a line with another first dot
+pub refuses_dotted : (S : Setting) (l : Piece) (m : Common) (t : Standing) (p : Reached) (n : ℕ) (hs : List Piece) → is_table m.form ≡ true → by_kind S (header m t p n hs) l Dotted ≡ refuses (fault (Message why.Unfinished) l.0)
+refuses_dotted S l m t p n hs e = cond-true (is_table m.form) _ _ e
 
 -- a line has a word exactly where it is not blank
 pub word_not_blank : {X : Type 0} (f : X → ℕ × (List ℕ × List ℕ)) (o : Option X) (bs : List ℕ) → option_map f o ≡ first_word bs → is_some o ≡ true → is_blank bs ≡ false

@@ -1,15 +1,13 @@
 // What each kind of line does in each stage.
-ghost use Rattle.std.specs.Prelude.{◌≡◌, ◌+◌, ◌^◌, ◌<◌, true, false, List, [], ◌∷◌, length, drop, IfErr, MatchOption, OnOk};
+ghost use Rattle.std.specs.Prelude.{◌≡◌, ◌+◌, ◌<◌, true, false, List, ◌∷◌, drop, MatchOption, IsOk, OnOk};
 ghost use Rattle.events.specs.Passing.{Comes};
 ghost use Rattle.daylight.specs.Settings.{told};
 ghost use Rattle.messages.specs.Models.{common, reached};
 ghost use Rattle.reader.specs.Kinds.{kind_of};
-ghost use Rattle.reader.specs.Lines.{Piece, line_piece, lines as lines_of, lines_ahead};
-ghost use Rattle.refusals.specs.declared.Refusal.TheVariants.{Message as MessageRefused};
+ghost use Rattle.reader.specs.Lines.{Piece, line_piece, lines_ahead};
 ghost use Rattle.stages.specs.Machines.{header_of, stage_of, Tied};
-ghost use Rattle.stages.specs.Stages.{begins, behind as leaves, body_line, by_kind, came, closing, continues, continues_as, in_body, in_header, is_table, next, onto, outside, pass_over, refuses, same_form, skipping};
-ghost use Rattle.stages.specs.Told.{closed, told as told_of};
-ghost use Rattle.refusals.specs.declared.MessageRefusal.TheVariants as why;
+ghost use Rattle.stages.specs.Stages.{begins, body_line, came, closing, continues, continues_as, is_table, next, outside, skipping};
+ghost use Rattle.stages.specs.Told.{closed};
 ghost use Rattle.terms.specs.Standing.{standing};
 
 use crate::stage::{Machine, Open, Stage};
@@ -24,17 +22,6 @@ use openings::{body_station, read_opening};
 use reader::{Form, Line, LineKind, Lines, continuation_of, is_readable, kind_of};
 use refusals::{Fault, MessageRefusal};
 use sink::Sink;
-
-// Outside messages only a continuation is refused.
-fn pass_over(line: Line<'_>, kind: LineKind) -> Result<(), Fault>
-    ensures moved { told_of outside result ≡ pass_over (line_piece line.entry) kind }
-    ensures says { IfErr result (λ f. f.refusal ≡ MessageRefused why.Continuation) }
-{
-    match kind {
-        LineKind::Continuation(_, _) => Err(MessageRefusal::Continuation.at(line.place)),
-        _ => Ok(()),
-    }
-}
 
 impl Open {
     fn is_table(&self) -> bool
@@ -180,71 +167,17 @@ impl<'a> Machine<'a> {
         Ok(())
     }
 
-    // In a header a continuation goes on, and any other line leaves it.
-    fn read_header<S: Sink, R: Rule>(
-        &mut self,
-        held: Open,
-        line: Line<'a>,
-        kind: LineKind,
-        setting: &Setting<'_, R>,
-        sink: &mut S,
-    ) -> Result<(), Fault>
-        ensures cases { (rest : List Piece) → drop held.number (lines_ahead self.old.lines) ≡ (line_piece line.entry) ∷ rest → Comes result (S.Sink.holds sink.old) (S.Sink.holds sink.new) (came (told R.daylight setting.now) (in_header (common held.message) (standing held.terms) (reached held.progress) held.number (header_of self.old held.number) (line_piece line.entry) kind)) (λ _ k. k (stage_of self.new)) }
-        ensures tied { (rest : List Piece) → drop held.number (lines_ahead self.old.lines) ≡ (line_piece line.entry) ∷ rest → OnOk result (Tied self.new rest) }
-        ensures frame { S.Sink.frame sink.old sink.new }
+    // The open message has ended. The answer is the row's: nothing is refused.
+    fn end(&mut self) -> Result<(), Fault>
+        ensures ok { IsOk result }
+        ensures stage { stage_of self.new ≡ outside }
+        ensures tied { (rest : List Piece) → Tied self.new rest }
     {
-        match kind {
-            LineKind::Continuation(form, revised) => self.carry_on(
-                held, line, form, revised, setting, sink,
-            ),
-            _ => self.leave_header(held, line, kind, setting, sink),
-        }
-    }
-
-    // Behind the header a table's body begins, and any other message has ended.
-    fn leave_header<S: Sink, R: Rule>(
-        &mut self,
-        held: Open,
-        line: Line<'a>,
-        kind: LineKind,
-        setting: &Setting<'_, R>,
-        sink: &mut S,
-    ) -> Result<(), Fault>
-        ensures cases { Comes result (S.Sink.holds sink.old) (S.Sink.holds sink.new) (came (told R.daylight setting.now) (leaves (common held.message) (standing held.terms) (header_of self.old held.number) (line_piece line.entry) kind)) (λ _ k. k (stage_of self.new)) }
-        ensures tied { OnOk result ((rest : List Piece) → Tied self.new rest) }
-        ensures frame { S.Sink.frame sink.old sink.new }
-    {
-        if held.is_table() {
-            return self.read_table(held, line, kind, setting, sink);
-        }
         self.stage = Stage::Outside;
         Ok(())
     }
 
-    // A line behind the header of a table: .END closes it, and no other line may have a first dot.
-    fn read_table<S: Sink, R: Rule>(
-        &mut self,
-        held: Open,
-        line: Line<'a>,
-        kind: LineKind,
-        setting: &Setting<'_, R>,
-        sink: &mut S,
-    ) -> Result<(), Fault>
-        ensures cases { Comes result (S.Sink.holds sink.old) (S.Sink.holds sink.new) (came (told R.daylight setting.now) (in_body (common held.message) (standing held.terms) (header_of self.old held.number) (line_piece line.entry) kind)) (λ _ k. k (stage_of self.new)) }
-        ensures tied { OnOk result ((rest : List Piece) → Tied self.new rest) }
-        ensures frame { S.Sink.frame sink.old sink.new }
-    {
-        match kind {
-            LineKind::Other => self.read_body(held, line, setting, sink),
-            LineKind::End => {
-                self.stage = Stage::Outside;
-                Ok(())
-            }
-            _ => Err(MessageRefusal::Unfinished.at(line.place)),
-        }
-    }
-
-    // What a line does, by the stage and the kind of line; `behind` are the lines that follow it.
+    // What a line does, by its kind and the stage: a row for each pair. `behind` are the lines that follow it.
     pub fn take_line<S: Sink, R: Rule>(
         &mut self,
         line: Line<'a>,
@@ -256,16 +189,40 @@ impl<'a> Machine<'a> {
         ensures tied { Tied self.old ((line_piece line.entry) ∷ lines_ahead behind.entry) → OnOk result (Tied self.new (lines_ahead behind.entry)) }
         ensures frame { S.Sink.frame sink.old sink.new }
     {
-        // The arms hand the kind on: no proof is made of a second arm that reads what a stage holds, once one has read what the kind
-        // holds.
-        match (self.stage, kind_of(line.part)) {
-            (_, LineKind::Opening(form, revised)) => {
-                self.open(line, behind, form, revised, setting, sink)
-            }
-            (Stage::Skipping, _) => Ok(()),
-            (Stage::Outside, kind) => pass_over(line, kind),
-            (Stage::Header(held), kind) => self.read_header(held, line, kind, setting, sink),
-            (Stage::Body(held), kind) => self.read_table(held, line, kind, setting, sink),
+        match kind_of(line.part) {
+            LineKind::Opening(form, revised) => self.open(
+                line, behind, form, revised, setting, sink,
+            ),
+            LineKind::Continuation(form, revised) => match self.stage {
+                Stage::Outside => Err(MessageRefusal::Continuation.at(line.place)),
+                Stage::Header(held) => self.carry_on(held, line, form, revised, setting, sink),
+                Stage::Body(_) => Err(MessageRefusal::Unfinished.at(line.place)),
+                Stage::Skipping => Ok(()),
+            },
+            LineKind::End => match self.stage {
+                Stage::Outside | Stage::Skipping => Ok(()),
+                Stage::Header(_) | Stage::Body(_) => self.end(),
+            },
+            LineKind::Dotted => match self.stage {
+                Stage::Outside | Stage::Skipping => Ok(()),
+                Stage::Header(held) => {
+                    if held.is_table() {
+                        return Err(MessageRefusal::Unfinished.at(line.place));
+                    }
+                    self.end()
+                }
+                Stage::Body(_) => Err(MessageRefusal::Unfinished.at(line.place)),
+            },
+            LineKind::Other => match self.stage {
+                Stage::Outside | Stage::Skipping => Ok(()),
+                Stage::Header(held) => {
+                    if held.is_table() {
+                        return self.read_body(held, line, setting, sink);
+                    }
+                    self.end()
+                }
+                Stage::Body(held) => self.read_body(held, line, setting, sink),
+            },
         }
     }
 

@@ -8,5 +8,5 @@ use Rattle.shef.proofs.decode.decode.Goals as goal
 pub returns-clause-delivered : goal.returns-clause-delivered
 returns-clause-delivered g c =
     let S = setting c.args.today (g.R.Rule.daylight c.args.rule.now) in
-    let sent = sent_is (g.S.Sink.holds c.args.sink.now) (g.S.Sink.holds c.read_dated-ending.new.sink) (records (decoded S c.args.text.now)) c.read_dated-ending.ensures.sink in
-    omega (arith, c.saturating_sub-delivered.ensures, c.count.ensures, c.count-held.ensures) ∙ sent
+    let sent = sent_is (g.S.Sink.holds c.args.sink.now) (g.S.Sink.holds c.read_text-read.new.sink) (records (decoded S c.args.text.now)) c.read_text-read.ensures.done.sink in
+    omega (arith, c.saturating_sub.ensures, c.count.ensures, c.count-held.ensures) ∙ sent
