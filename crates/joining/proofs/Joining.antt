@@ -36,19 +36,27 @@ lines-behind S n e xs (l ∷ ls) h at =
     ∙ ap (λ (es : List Event). to_come S n outside xs ++ es) (to_come-shifted n S e (l ∷ ls))
 
 -- a text that begins at 0 stands where it stood
-zero_shifted : (es : List Event) → es ≡ shifted_events 0 es
+pub zero_shifted : (es : List Event) → es ≡ shifted_events 0 es
 zero_shifted [] = refl
 zero_shifted (logged p e ∷ es) = ap (λ k. logged k e ∷ es) (sym (zero-add p)) ∙ ap (λ l. logged (0 + p) e ∷ l) (zero_shifted es)
 zero_shifted (refused r p ∷ es) = ap (λ k. refused r k ∷ es) (sym (zero-add p)) ∙ ap (λ l. refused r (0 + p) ∷ l) (zero_shifted es)
+
+-- what two texts come to, the first of which ends with a line feed, by their lines
+module _ (S : Setting) (front second : List ℕ) where
+  abbrev fed : List ℕ
+  fed = front ++ 10 ∷ []
+
+  pub by_lines : events S (fed ++ second) ≡ to_come S (length fed + length second) outside (lines fed ++ map (shifted (length fed)) (lines second))
+  by_lines =
+      ap (λ d. to_come S d outside (lines (fed ++ second))) (length-append fed second)
+      ∙ ap (to_come S (length fed + length second) outside)
+      (ap lines (append_assoc front (10 ∷ []) second) ∙ lines_join front second ∙ ap (λ n. lines fed ++ map (shifted n) (lines second)) (sym (length_push front 10)))
 
 module _ (S : Setting) (second : List ℕ) (opens : opens_first (lines second) ≡ true) where
   behind_feed : (front : List ℕ) → events S ((front ++ 10 ∷ []) ++ second) ≡ events S (front ++ 10 ∷ []) ++ shifted_events (length (front ++ 10 ∷ [])) (events S second)
   behind_feed front =
       let first : List ℕ = front ++ 10 ∷ [] in
-      let whole : lines (first ++ second) ≡ lines first ++ map (shifted (length first)) (lines second) =
-      ap lines (append_assoc front (10 ∷ []) second) ∙ lines_join front second ∙ ap (λ n. lines first ++ map (shifted n) (lines second)) (sym (length_push front 10)) in
-      ap (λ d. to_come S d outside (lines (first ++ second))) (length-append first second)
-      ∙ ap (to_come S (length first + length second) outside) whole
+      by_lines S front second
       ∙ lines-behind S (length first) (length second) (lines first) (lines second) opens (first_begins 0 [] second)
 
   behind : {first : List ℕ} → EndsLine first → events S (first ++ second) ≡ events S first ++ shifted_events (length first) (events S second)

@@ -7,3 +7,5 @@ pub mod InsideTurns
 pub mod InsideItems
 pub mod InsideFields
 pub mod InsideStages
+pub mod OneMessage
+pub mod Ordinary

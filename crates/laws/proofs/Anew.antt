@@ -63,12 +63,23 @@ module _ (S : Setting) (m : Common) (t : Standing) (hs : List Piece) where
       closes : (l : Piece) (rest : List Piece) → kind_of l.1 ≡ End → within S e (body m t hs) (l ∷ rest) ≡ within S e outside rest
       closes l rest end = ap (λ k. came S (by_kind S (body m t hs) l k) (λ τ. within S e τ rest)) end
 
+      -- a line that is read behind the header, more such lines, and then others
+      pub from_line : (x : Piece) (ls more : List Piece) (es : List Event) → AllByRecursion (Reads S m t hs) (x ∷ ls) → within S e (body m t hs) more ≡ es
+          → within S e (header m t p n hs) (x ∷ ls ++ more) ≡ flat_map (body_events S m t hs) (x ∷ ls) ++ es
+      from_line x ls more es h b = first x (ls ++ more) h.0.0 ∙ each (x ∷ ls) more h ∙ ap (λ es. flat_map (body_events S m t hs) (x ∷ ls) ++ es) b
+
+      -- the same, perhaps without such a line
+      pub from_header : (ls more : List Piece) (es : List Event) → AllByRecursion (Reads S m t hs) ls → within S e (header m t p n hs) more ≡ es → within S e (body m t hs) more ≡ es
+          → within S e (header m t p n hs) (ls ++ more) ≡ flat_map (body_events S m t hs) ls ++ es
+      from_header [] more es h a b = a
+      from_header (x ∷ ls) more es h a b = from_line x ls more es h b
+
       table : (ls : List Piece) (l : Piece) (rest : List Piece) → AllByRecursion (Reads S m t hs) ls → kind_of l.1 ≡ End
           → within S e (header m t p n hs) (ls ++ l ∷ rest) ≡ flat_map (body_events S m t hs) ls ++ within S e outside rest
-      table [] l rest h end =
-          ap (λ k. came S (by_kind S (header m t p n hs) l k) (λ τ. within S e τ rest)) end ∙ ap (λ b. came S (cond b (in_body m t hs l End) (onto outside)) (λ τ. within S e τ rest)) is
-      table (x ∷ ls) l rest h end =
-          first x (ls ++ l ∷ rest) h.0.0 ∙ each (x ∷ ls) (l ∷ rest) h ∙ ap (λ es. flat_map (body_events S m t hs) (x ∷ ls) ++ es) (closes l rest end)
+      table ls l rest h end =
+          from_header ls (l ∷ rest) (within S e outside rest) h
+          (ap (λ k. came S (by_kind S (header m t p n hs) l k) (λ τ. within S e τ rest)) end ∙ ap (λ b. came S (cond b (in_body m t hs l End) (onto outside)) (λ τ. within S e τ rest)) is)
+          (closes l rest end)
 
 pub body_lines : BodyLines
 body_lines = record {

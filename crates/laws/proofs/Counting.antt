@@ -1,5 +1,5 @@
 -- How many records items come to.
-use Rattle.std.proofs.Common.{◌≡◌, ℕ, ◌+◌, ◌-◌, ◌≤◌, Bool, true, false, cond, List, [], ◌∷◌, ◌++◌, length, is_some, Some, None, Ok, Err, Option, Result, sym, refl, ap, ◌∙◌, append-nil, arith}
+use Rattle.std.proofs.Common.{◌≡◌, ℕ, ◌+◌, ◌-◌, ◌≤◌, Bool, true, false, cond, not, ◌||◌, List, [], ◌∷◌, ◌++◌, length, is_some, Some, None, Ok, Err, Option, Result, sym, refl, ap, ◌∙◌, append-nil, arith}
 use Rattle.std.specs.Option.{ok_or}
 use Rattle.std.specs.List.{AllByRecursion}
 use Rattle.std.proofs.lemmas.Bool.{true≢false}
@@ -21,6 +21,7 @@ use Rattle.events.specs.Events.{Event, refused}
 use Rattle.events.specs.Passing.{logged_all}
 use Rattle.daylight.specs.Settings.{Setting}
 use Rattle.messages.specs.Models.{Common, Reached, fresh}
+use Rattle.messages.specs.Roles.{is_plain}
 use Rattle.messages.specs.Turns.{Turned, silent, is_empty, with_terms, d_item, code_read, valued, gives, item_of_a, next_step, mark_of_step, step_of_e, stage_of, code_or_step, item_of_e, item_of_header, item_of_body, item_of_line, turn}
 use Rattle.messages.specs.Ways.{then_ok}
 use Rattle.logging.specs.Follow.{place_of, logs, turn_then, follow}
@@ -57,12 +58,12 @@ module _ (f : Form) (c : Option (List ℕ)) where
   d_tallies S m p stage item e = then_tallies 0 (ok_or (after_item S.today S.daylight m.zone stage item p.terms) DItem) (λ t. silent (with_terms p t)) (λ t. silent_tallies (with_terms p t) e)
 
   -- an item is empty, a D item or plain
-  by_empty : (a b : Bool) (x y z : Turned) → Tallies f c 0 x → Tallies f c 0 y → Tallies f c 1 z → Tallies f c (cond a 0 (cond b 0 1)) (cond a x (cond b y z))
+  by_empty : (a b : Bool) (x y z : Turned) → Tallies f c 0 x → Tallies f c 0 y → Tallies f c 1 z → Tallies f c (cond (not (a || b)) 1 0) (cond a x (cond b y z))
   by_empty true b x y z hx hy hz = hx
   by_empty false true x y z hx hy hz = hy
   by_empty false false x y z hx hy hz = hz
 
-  by_d : (a b : Bool) (x y z : Turned) → Tallies f c 0 x → Tallies f c 0 y → Tallies f c 1 z → Tallies f c (cond a 0 (cond b 0 1)) (cond b y (cond a x z))
+  by_d : (a b : Bool) (x y z : Turned) → Tallies f c 0 x → Tallies f c 0 y → Tallies f c 1 z → Tallies f c (cond (not (a || b)) 1 0) (cond b y (cond a x z))
   by_d true true x y z hx hy hz = hy
   by_d true false x y z hx hy hz = hx
   by_d false true x y z hx hy hz = hy
@@ -70,7 +71,7 @@ module _ (f : Form) (c : Option (List ℕ)) where
 
 module _ (S : Setting) (m : Common) (p : Reached) (item : List ℕ) where
   abbrev plain : ℕ
-  plain = cond (is_empty item) 0 (cond (is_d item) 0 1)
+  plain = cond (is_plain item) 1 0
 
   a_tallies : Tallies A p.code plain (item_of_a S m p item)
   unfolding item_of_a
@@ -129,7 +130,7 @@ Fits f (of_line q) = Unit {0}
 
 abbrev plain_in : Sided → ℕ
 plain_in (of_header q) = 0
-plain_in (of_line q) = cond (is_empty q.1) 0 (cond (is_d q.1) 0 1)
+plain_in (of_line q) = cond (is_plain q.1) 1 0
 
 turn_tallies : (S : Setting) (m : Common) (p : Reached) (x : Sided) → Fits m.form x → Tallies m.form p.code (plain_in x) (turn S m p x)
 turn_tallies S m p (of_header q) h = head_tallies S m p q.1 m.form h

@@ -1,5 +1,5 @@
 -- A refusal is the last event of its message.
-use Rattle.std.proofs.Common.{◌≡◌, ℕ, ◌+◌, ◌≤◌, true, false, cond, List, [], ◌∷◌, ◌++◌, length, Some, None, Option, sym, refl, ap, ◌∙◌, subst, append_assoc, arith, length-append}
+use Rattle.std.proofs.Common.{◌≡◌, ℕ, ◌+◌, ◌≤◌, Bool, true, false, cond, List, [], ◌∷◌, ◌++◌, length, Some, None, Option, sym, refl, ap, ◌∙◌, subst, append_assoc, arith, length-append}
 use Rattle.std.specs.List.{AllByRecursion}
 use Rattle.std.proofs.lemmas.Bool.{true≢false}
 use Rattle.reader.specs.Kinds.{kind_of}
@@ -18,7 +18,7 @@ use Rattle.stages.specs.Stages.{Stage, outside, skipping, header, body, is_table
 use Rattle.shef.specs.Texts.{is_opening, Stretch, cut, end_of, stretch, stretches, events}
 use Rattle.laws.specs.Endings.{lastly, EndsOnce, OneRefusal}
 use Rattle.laws.specs.Outside.{NoOpening}
-use Rattle.laws.proofs.Idle.{before}
+use Rattle.laws.proofs.Idle.{before, one_stretch, no_stretch}
 use Rattle.laws.proofs.Runs.{Runs, past, stopped, came_runs, refusals-behind, refusals-append}
 
 ends_none : EndsOnce []
@@ -65,9 +65,18 @@ none_kind S l End rest h r = r
 none_kind S l Dotted rest h r = r
 none_kind S l Other rest h r = r
 
-none_logged : (S : Setting) (e : ℕ) (ls : List Piece) → AllByRecursion NoOpening ls → records (within S e outside ls) ≡ []
+pub none_logged : (S : Setting) (e : ℕ) (ls : List Piece) → AllByRecursion NoOpening ls → records (within S e outside ls) ≡ []
 none_logged S e [] hs = refl
 none_logged S e (l ∷ ls) hs = none_kind S l (kind_of l.1) (λ τ. within S e τ ls) hs.0 (none_logged S e ls hs.1)
+
+-- a text of one message
+module _ (S : Setting) (text : List ℕ) (l : Piece) (ls : List Piece) (is : lines text ≡ l ∷ ls) (hs : AllByRecursion NoOpening ls) where
+  by_first : (b : Bool) → is_opening (kind_of l.1) ≡ b → EndsOnce (events S text)
+  by_first true h = subst EndsOnce (sym (one_stretch S text l ls is hs h)) (ends_stretch S (length text) (l, ls))
+  by_first false h = subst EndsOnce (sym (no_stretch S text l ls is hs h)) (ends_within S (length text) outside (l ∷ ls))
+
+  single : EndsOnce (events S text) × (length (refusals (events S text)) ≤ 1)
+  single = let r = by_first (is_opening (kind_of l.1)) refl in (r, one r)
 
 -- the whole text
 together : (es fs : List Event) → length (refusals (es ++ fs)) ≡ length (refusals es) + length (refusals fs)
@@ -87,5 +96,6 @@ pub one_refusal : OneRefusal
 one_refusal = record {
   message = λ S e s. (ends_stretch S e s, one (ends_stretch S e s));
   preface = λ S e ls. (none_logged S e (cut ls).0 (before ls), one (ends_within S e outside (cut ls).0));
+  single = single;
   whole = whole;
 }

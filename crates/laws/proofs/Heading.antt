@@ -1,5 +1,5 @@
 -- A body line is never refused for the sake of its header.
-use Rattle.std.proofs.Common.{◌≡◌, ℕ, ◌+◌, ◌≤◌, Bool, true, false, cond, eqb, List, [], ◌∷◌, ◌++◌, map, length, take, drop, is_some, Some, None, Ok, Err, Option, Result, sym, refl, ap, ◌∙◌, inl, inr, arith}
+use Rattle.std.proofs.Common.{◌≡◌, ℕ, ◌+◌, ◌≤◌, Bool, true, false, cond, eqb, List, [], ◌∷◌, ◌++◌, map, length, take, drop, is_some, Some, None, Ok, Err, Option, Result, sym, refl, ◌∙◌, inl, inr, arith}
 use Rattle.std.specs.Option.{option_map, ok_or}
 use Rattle.std.specs.List.{AllByRecursion}
 use Rattle.std.proofs.ByRecursion.{All-append, All-weaker}
@@ -34,6 +34,7 @@ use Rattle.openings.specs.Openings.{placed_word, word_at, field}
 use Rattle.stages.specs.Stages.{onto, refuses, body, of_station, line_of, body_line, came}
 use Rattle.laws.specs.Headings.{HeaderRead, StandsAt, HeadersHold}
 use Rattle.laws.specs.Tables.{body_events}
+use Rattle.laws.proofs.Runs.{not_none}
 use Rattle.laws.proofs.Steady.{item_alike}
 
 abbrev good : {X Y : Type 0} → Result X Y → Bool
@@ -68,10 +69,6 @@ module _ (S : Setting) (m : Common) (name : List ℕ) where
           | false ↦ good_code (code_read item) (λ code. with_code p (Some code)) (λ code. with_code q (Some code))
         ]
       ]
-
--- a refusal is one
-not_none : {f : Fault} {fs : List Fault} → f ∷ fs ≡ [] → ⊥
-not_none e = let one = ap length e in omega arith
 
 logs-none : (place : ℕ) (o : Option Entry) (es : List Event) → refusals (logs place o es) ≡ refusals es
 logs-none place None es = refl

@@ -7,3 +7,8 @@ pub mod Totals
 pub mod Few
 pub mod Steady
 pub mod Heading
+pub mod Table
+pub mod FromOpening
+pub mod Naming
+pub mod Marking
+pub mod Breaking

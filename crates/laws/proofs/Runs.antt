@@ -40,6 +40,10 @@ came_runs S (onto σ) = past [] σ (λ k. refl)
 came_runs S (reads m p parts to) = leads to (follow_runs S m p parts)
 came_runs S (refuses f) = stopped [] f (λ k. refl)
 
+-- a refusal is one
+pub not_none : {f : Fault} {fs : List Fault} → f ∷ fs ≡ [] → ⊥
+not_none e = let one = ap length e in omega arith
+
 -- no record is a refusal
 pub refusals-behind : (xs : List (ℕ × Entry)) (es : List Event) → refusals (logged_all xs ++ es) ≡ refusals es
 refusals-behind [] es = refl
@@ -53,8 +57,7 @@ refusals-append (refused r p ∷ es) fs = ap (λ l. fault r p ∷ l) (refusals-a
 -- where nothing is refused, what follows comes behind it; else nothing does
 pub behind_read : {Q : Type 0} {es : (Q → List Event) → List Event} → Runs es → refusals (es (λ _. [])) ≡ [] → (rest : List Event) → es (λ _. rest) ≡ es (λ _. []) ++ rest
 behind_read (past xs q is) none rest = is (λ _. rest) ∙ ap (λ l. l ++ rest) (sym (is (λ _. []) ∙ append-nil (logged_all xs)))
-behind_read (stopped xs f is) none rest =
-    let one = ap length (sym (refusals-behind xs (refused f.refusal f.place ∷ [])) ∙ sym (ap refusals (is (λ _. []))) ∙ none) in absurd (omega arith)
+behind_read (stopped xs f is) none rest = absurd (not_none (sym (refusals-behind xs (refused f.refusal f.place ∷ [])) ∙ sym (ap refusals (is (λ _. []))) ∙ none))
 
 pub behind_refused : {Q : Type 0} {es : (Q → List Event) → List Event} → Runs es → (refusals (es (λ _. [])) ≡ [] → ⊥) → (k : Q → List Event) → es k ≡ es (λ _. [])
 behind_refused (past xs q is) some k = absurd (some (ap refusals (is (λ _. [])) ∙ refusals-behind xs []))

@@ -6,7 +6,7 @@ use Rattle.calendar.specs.Messages.{message_date}
 use Rattle.calendar.specs.declared.date.Date.{Date as Day}
 use Rattle.merging.specs.Headers.{continued_items}
 use Rattle.items.specs.Items.{message_items, body_items, is_blank}
-use Rattle.merging.specs.Merging.{Sided, is_d, filled, from_header}
+use Rattle.merging.specs.Merging.{Sided, filled, from_header}
 use Rattle.merging.proofs.Merging.{merged_keeps}
 use Rattle.reader.specs.Kinds.{kind_of, letters_of, is_continuation, readable}
 use Rattle.reader.specs.Lines.{Piece, lines}
@@ -26,7 +26,7 @@ use Rattle.events.specs.Passing.{logged_all}
 use Rattle.events.specs.Room.{refusals}
 use Rattle.daylight.specs.Settings.{Setting}
 use Rattle.messages.specs.Models.{Common, Reached, fresh}
-use Rattle.messages.specs.Turns.{is_empty}
+use Rattle.messages.specs.Roles.{is_plain}
 use Rattle.messages.specs.Ways.{then_ok}
 use Rattle.logging.specs.Follow.{place_of, follow}
 use Rattle.logging.specs.Own.{own_items}
@@ -37,7 +37,7 @@ use Rattle.laws.specs.Outside.{NoOpening}
 use Rattle.laws.specs.Readings.{plain_items, behind_fields, behind_station, line_readings, continuations, behind_header, is_end, body_readings, message_readings, opened_readings, stretch_readings, readings_of, RecordsAreReadings}
 use Rattle.laws.proofs.Counting.{due, due_at, plain_of, plain_front, Counted, all, upto, counted, own_fits, table_fits, of_message, of_line_lem}
 use Rattle.laws.proofs.Idle.{before}
-use Rattle.laws.proofs.Runs.{refusals-behind, refusals-append}
+use Rattle.laws.proofs.Runs.{not_none, refusals-behind, refusals-append}
 
 abbrev count : List Event → ℕ
 count es = length (records es)
@@ -50,10 +50,6 @@ count_append : (es fs : List Event) → count (es ++ fs) ≡ count es + count fs
 count_append [] fs = omega arith
 count_append (logged p e ∷ es) fs = omega (arith, count_append es fs)
 count_append (refused r p ∷ es) fs = count_append es fs
-
--- a refusal is one
-not_none : {f : Fault} {fs : List Fault} → f ∷ fs ≡ [] → ⊥
-not_none e = let one = ap length e in omega arith
 
 none_left : (fs gs : List Fault) → fs ++ gs ≡ [] → (fs ≡ []) × (gs ≡ [])
 none_left [] gs e = (refl, e)
@@ -97,12 +93,12 @@ tally_follow S m p xs k n (upto read x more ys r parts is many) h =
 -- the items of a message
 plain_own : (f : Form) → is_table f ≡ false → (qs : List Piece) → plain_of (own_items f qs) ≡ plain_items qs
 plain_own A h [] = refl
-plain_own A h (q ∷ qs) = ap (λ n. cond (is_empty q.1) 0 (cond (is_d q.1) 0 1) + n) (plain_own A h qs)
+plain_own A h (q ∷ qs) = ap (λ n. cond (is_plain q.1) 1 0 + n) (plain_own A h qs)
 plain_own B h qs = absurd (true≢false h)
 plain_own E h [] = refl
-plain_own E h (q ∷ qs) = ap (λ n. cond (is_empty q.1) 0 (cond (is_d q.1) 0 1) + n) (plain_own E h qs)
+plain_own E h (q ∷ qs) = ap (λ n. cond (is_plain q.1) 1 0 + n) (plain_own E h qs)
 
-plain_header : (qs : List Piece) → plain_of (own_items B qs) ≡ 0
+pub plain_header : (qs : List Piece) → plain_of (own_items B qs) ≡ 0
 plain_header [] = refl
 plain_header (q ∷ qs) = plain_header qs
 
@@ -287,7 +283,7 @@ lines_count S e [] hs σ s = at_end σ e
 lines_count S e (l ∷ ls) hs σ s = one_more S e l ls (lines_count S e ls hs.1) σ s hs.0
 
 -- an opening keeps its form
-abbrev Keeps : Form → Result Opened Fault → Type 0
+abbrev pub Keeps : Form → Result Opened Fault → Type 0
 Keeps f (Ok o) = o.common.form ≡ f
 Keeps f (Err x) = Unit {0}
 
@@ -295,7 +291,7 @@ then_keeps : {X : Type 0} (f : Form) (r : Result X Fault) (g : X → Result Open
 then_keeps f (Ok x) g h = h x
 then_keeps f (Err x) g h = tt
 
-opened_keeps : (today : Day) (f : Form) (v : Bool) (l : Piece) → Keeps f (opened today f v l)
+pub opened_keeps : (today : Day) (f : Form) (v : Bool) (l : Piece) → Keeps f (opened today f v l)
 unfolding opened
 opened_keeps today f v l =
     then_keeps f (field why.Station station_of l (letters_of l.1)) _ (λ n. then_keeps f (field why.Date (λ w. message_date w today) l n.1) _ (λ d. refl))
@@ -338,14 +334,14 @@ stretch_counts : (S : Setting) (e : ℕ) (s : Stretch) → is_opening (kind_of s
 stretch_counts S e s h hs = kind_counts S e s.0 s.1 hs (kind_of s.0.1) h
 
 -- the stretches of a text
-abbrev WellCut : Stretch → Type 0
+abbrev pub WellCut : Stretch → Type 0
 WellCut s = (is_opening (kind_of s.0.1) ≡ true) × AllByRecursion NoOpening s.1
 
 cut_one : (l : Piece) (b : Bool) (c : List Piece × List Stretch) → is_opening (kind_of l.1) ≡ b → AllByRecursion NoOpening c.0 → AllByRecursion WellCut c.1 → AllByRecursion WellCut (on_front b l c).1
 cut_one l true c e h w = ((e, h), w)
 cut_one l false c e h w = w
 
-well_cut : (ls : List Piece) → AllByRecursion WellCut (cut ls).1
+pub well_cut : (ls : List Piece) → AllByRecursion WellCut (cut ls).1
 well_cut [] = tt
 well_cut (l ∷ ls) = cut_one l (is_opening (kind_of l.1)) (cut ls) refl (before ls) (well_cut ls)
 

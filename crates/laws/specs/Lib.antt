@@ -4,3 +4,7 @@ pub mod Tables
 pub mod Readings
 pub mod Counts
 pub mod Headings
+pub mod LineTable
+pub mod TableTexts
+pub mod Origins
+pub mod Breaks

@@ -3,7 +3,7 @@ use Rattle.std.specs.Prelude.{◌≡◌, ℕ, ◌+◌, ◌-◌, ◌≤◌, Bool,
 use Rattle.std.specs.List.{AllByRecursion}
 use Rattle.merging.specs.Headers.{header_items}
 use Rattle.items.specs.Items.{message_items, body_items, is_blank}
-use Rattle.merging.specs.Merging.{Sided, is_d, filled, from_header, own_items as line_items}
+use Rattle.merging.specs.Merging.{Sided, filled, from_header, own_items as line_items}
 use Rattle.reader.specs.Kinds.{kind_of, is_continuation}
 use Rattle.reader.specs.Lines.{Piece, lines}
 use Rattle.reader.specs.declared.kind.Form.{Form}
@@ -22,7 +22,7 @@ use Rattle.events.specs.Passing.{logged_all}
 use Rattle.events.specs.Room.{refusals}
 use Rattle.daylight.specs.Settings.{Setting}
 use Rattle.messages.specs.Models.{Common, fresh}
-use Rattle.messages.specs.Turns.{is_empty}
+use Rattle.messages.specs.Roles.{is_plain}
 use Rattle.logging.specs.Follow.{place_of, follow}
 use Rattle.logging.specs.Own.{own_items}
 use Rattle.openings.specs.Openings.{Opened, field, opened}
@@ -33,7 +33,7 @@ use Rattle.laws.specs.Outside.{NoOpening}
 -- how many items are neither empty nor D items
 abbrev pub plain_items : List Piece → ℕ
 plain_items [] = 0
-plain_items (q ∷ qs) = cond (is_empty q.1) 0 (cond (is_d q.1) 0 1) + plain_items qs
+plain_items (q ∷ qs) = cond (is_plain q.1) 1 0 + plain_items qs
 
 -- of these each is a reading, but in .E the first is the code
 abbrev pub readings_in : Form → List Piece → ℕ
