@@ -1,4 +1,7 @@
 // Damage of single bytes.
+ghost use Rattle.std.specs.Prelude.{◌≡◌};
+ghost use Rattle.cases.specs.Harms.{harm_of};
+
 use std::alloc::{AllocError, Global};
 
 #[derive(Clone, Copy, Debug, PartialEq, Eq)]
@@ -16,7 +19,9 @@ const SIGNS: [u8; 24] = [
 
 // The harm done to the byte at a place in a round: another byte each round after the first two. A round is a number and no kind, since
 // from the third on only the byte changes with it.
-pub fn harm_at(place: usize, round: usize) -> Harm {
+pub fn harm_at(place: usize, round: usize) -> Harm
+    ensures { result ≡ harm_of place round }
+{
     match round {
         0 => Harm::Lost,
         1 => Harm::Doubled,

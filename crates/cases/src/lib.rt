@@ -1,9 +1,10 @@
-// Texts for decoders, good and damaged, each with a current date and a room for records. Where the
-// outcome was worked out by hand from the rules, it stands with the text.
+// Texts for decoders, good and damaged, each with a current date and a room for records. The outcome
+// of each was worked out by hand from the rules, and stands with the text.
 #![tactic(auto)]
 
 mod damage;
 mod form;
+mod offices;
 mod settings;
 mod structure;
 mod tables;
@@ -14,9 +15,12 @@ mod worked;
 pub use damage::{Harm, damaged, harm_at};
 pub use form::{Case, read_list};
 
-// The lists of cases, each in the form that `read_list` reads.
-pub const LISTS: [&str; 6] = [
-    worked::WORKED,
+// The lists of cases, each in the form that `read_list` reads: the worked examples of the rules, and
+// messages as river offices send them.
+pub const EXAMPLES: [&str; 2] = [worked::WORKED, offices::OFFICES];
+
+// And many short cases of each rule.
+pub const TRIALS: [&str; 5] = [
     structure::STRUCTURE,
     tables::TABLES,
     times::TIMES,

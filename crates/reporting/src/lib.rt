@@ -4,5 +4,5 @@
 mod single;
 mod tally;
 
-pub use single::{case_line, is_as_told, show_difference};
+pub use single::{Detail, is_as_told, show_case, show_difference};
 pub use tally::{Tally, closing, show_tally};

@@ -1,22 +1,40 @@
 // What is printed of single texts.
+ghost use Rattle.std.specs.Prelude.{◌≡◌, IfOk};
+ghost use Rattle.reporting.specs.Rows.{is_as_told, same_rows};
+
 use cases::Case;
 use second::Outcome;
 use std::alloc::{AllocError, Global};
 
-// Whether an outcome is as it is told with a case, if it is. Where it is not, both are shown.
-pub fn is_as_told(rt: &HostRuntime, case: &Case, outcome: &Outcome) -> anyhow::Result<bool> {
+// How much is printed of the outcome of a case: how many records it has, or each of them besides.
+#[derive(Clone, Copy, Debug, PartialEq, Eq)]
+pub enum Detail {
+    Counts,
+    Records,
+}
+
+// Whether the same rows are told as came.
+fn same_rows(came: &[String], told: &[String]) -> bool
+    ensures { result ≡ same_rows came.now told.now }
+{
+    came == told
+}
+
+// Whether an outcome is told with a case, and these are its rows. Where they are not, both are shown.
+pub fn is_as_told(rt: &HostRuntime, case: &Case, came: &[String]) -> anyhow::Result<bool>
+    ensures { IfOk result (λ same. same ≡ is_as_told case.now.outcome came.now) }
+{
     let Some(told) = &case.outcome else {
-        return Ok(true);
+        return Ok(false);
     };
-    let came = telling::rows(rt.alloc(), outcome)?;
-    let same = came == *told;
+    let same = same_rows(came, told.as_slice());
     if !same {
-        telling::show(rt, came.as_slice(), told.as_slice())?;
+        telling::show(rt, came, told.as_slice())?;
     }
     Ok(same)
 }
 
-pub fn case_line(
+fn case_line(
     heap: Global,
     name: &str,
     outcome: &Outcome,
@@ -24,7 +42,24 @@ pub fn case_line(
 ) -> Result<String, AllocError> {
     let records = outcome.records.len();
     let faults = telling::faults(heap, outcome)?;
-    format!(in heap; "{name}: {records} records, faults{faults}{verdict}")
+    let answer = outcome.answer.number();
+    format!(in heap; "{name}: {records} records, faults{faults}, answer {answer}{verdict}")
+}
+
+// The outcome of a case, with its records as listing lines where they are asked for.
+pub fn show_case(
+    rt: &HostRuntime,
+    name: &str,
+    outcome: &Outcome,
+    verdict: &str,
+    detail: Detail,
+) -> anyhow::Result<()> {
+    let line = case_line(rt.alloc(), name, outcome, verdict)?;
+    println!(rt; "{line}")?;
+    match detail {
+        Detail::Counts => Ok(()),
+        Detail::Records => telling::say_all(rt, outcome.records.as_slice()),
+    }
 }
 
 pub fn show_difference(

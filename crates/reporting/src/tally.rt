@@ -1,4 +1,4 @@
-ghost use Rattle.std.specs.Prelude.{◌≡◌, Some, cond, vec_len};
+ghost use Rattle.std.specs.Prelude.{◌≡◌, OnOk, Some, cond, vec_len};
 ghost use Rattle.reporting.specs.Tallies.{both, tally_text};
 
 use anyhow::ensure;
@@ -69,7 +69,9 @@ pub fn show_tally(rt: &HostRuntime, what: &str, tally: Tally) -> anyhow::Result<
 }
 
 // Ends well only where every text came out as told and alike from both decoders.
-pub fn closing(rt: &HostRuntime, sum: Tally) -> anyhow::Result<()> {
+pub fn closing(rt: &HostRuntime, sum: Tally) -> anyhow::Result<()>
+    ensures { OnOk result (sum.differing ≡ 0) }
+{
     show_tally(rt, "texts in all", sum)?;
     ensure!(
         sum.differing == 0,

@@ -1,2 +1,4 @@
+pub mod Kinds
 pub mod Letters
 pub mod Parts
+pub mod Signs

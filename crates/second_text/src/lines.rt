@@ -1,7 +1,10 @@
 // Lines of a text and what kind of line each is.
-ghost use Rattle.std.specs.Prelude.{◌≡◌, ◌≢◌, MatchOption, drop, length, min};
-ghost use Rattle.second_text.specs.Letters.{count_of, letter_of};
+ghost use Rattle.std.specs.Prelude.{◌≡◌, ◌≢◌, MatchOption, drop, length, min, option_map};
+ghost use Rattle.second_text.specs.Kinds.{kind_of};
+ghost use Rattle.second_text.specs.Letters.{count_of, form_of, letter_of, lettered};
 ghost use Rattle.second_text.specs.Parts.{place_behind};
+ghost use Rattle.second_text.specs.Signs.{is_unfit, prints};
+ghost use Rattle.std.specs.List.{list_all};
 
 use crate::parts::Part;
 use std::alloc::{AllocError, Global};
@@ -17,7 +20,8 @@ pub enum Form {
 impl Form {
     // The form that a letter names.
     fn named(letter: u8) -> Option<Form>
-        ensures { MatchOption result ((f : Form) → letter_of f ≢ letter) (λ f. letter_of f ≡ letter) }
+        ensures value { result ≡ form_of letter }
+        ensures letter { MatchOption result ((f : Form) → letter_of f ≢ letter) (λ f. letter_of f ≡ letter) }
     {
         match letter {
             b'A' => Some(Form::Single),
@@ -73,14 +77,18 @@ impl Letters {
 }
 
 // The letters of a line and what stands behind them.
-pub(crate) fn lettered(line: Part<'_>) -> Option<(Letters, Part<'_>)> {
+pub(crate) fn lettered(line: Part<'_>) -> Option<(Letters, Part<'_>)>
+    ensures { option_map (λ r. (r.0, r.1.bytes.now)) result ≡ lettered line.entry.bytes.now }
+{
     let form = Form::named(line.bytes.get(1).copied()?)?;
     let revised = line.bytes.get(2).copied() == Some(b'R');
     let letters = Letters { form, revised };
     Some((letters, letters.behind(line)))
 }
 
-pub fn kind_of(line: Part<'_>) -> Kind {
+pub fn kind_of(line: Part<'_>) -> Kind
+    ensures { result ≡ kind_of line.entry.bytes.now }
+{
     if !line.bytes.starts_with(b".") {
         return Kind::Plain;
     }
@@ -98,8 +106,16 @@ pub fn kind_of(line: Part<'_>) -> Kind {
 }
 
 // Whether a line is too long or has a byte that does not print.
-pub fn is_unfit(line: &[u8]) -> bool {
-    line.len() > 1000 || line.iter().any(|b| !(b' '..=b'~').contains(b))
+pub fn is_unfit(line: &[u8]) -> bool
+    ensures { result ≡ is_unfit line.now }
+{
+    line.len() > 1000 || !prints(line)
+}
+
+fn prints(line: &[u8]) -> bool
+    ensures { result ≡ list_all prints line.now }
+{
+    line.iter().all(|b| matches!(*b, b' '..=b'~'))
 }
 
 // The line with its comments turned to blanks.

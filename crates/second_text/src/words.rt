@@ -1,13 +1,22 @@
 // Names, and the number of a continuation.
+ghost use Rattle.std.specs.Prelude.{◌≡◌};
+ghost use Rattle.second_text.specs.Signs.{is_name, is_sign};
+ghost use Rattle.std.specs.List.{list_all};
+
 use crate::lines::{Letters, lettered};
 use crate::parts::Part;
 
 // Whether a word is 3 to 8 capitals or digits.
-pub fn is_name(word: &[u8]) -> bool {
-    (3..=8).contains(&word.len())
-        && word
-            .iter()
-            .all(|b| b.is_ascii_uppercase() || b.is_ascii_digit())
+pub fn is_name(word: &[u8]) -> bool
+    ensures { result ≡ is_name word.now }
+{
+    (3..=8).contains(&word.len()) && has_signs_alone(word)
+}
+
+fn has_signs_alone(word: &[u8]) -> bool
+    ensures { result ≡ list_all is_sign word.now }
+{
+    word.iter().all(|b| matches!(*b, b'A'..=b'Z' | b'0'..=b'9'))
 }
 
 // The items of a continuation, if it has the letters and the number asked for.

@@ -1,9 +1,14 @@
 // Short dates completed against the current date.
+ghost use Rattle.std.specs.Prelude.{◌≡◌, ◌+◌, ◌*◌, drop};
+ghost use Rattle.second_time.specs.Dates.{century_of, two_digits};
+
 use crate::days;
 use crate::days::Day;
 
 // The century, 19 or 20, in which a year of two digits is nearer to the current year.
-pub fn century(today: Day, year: u8) -> u8 {
+pub fn century(today: Day, year: u8) -> u8
+    ensures { result ≡ century_of today year }
+{
     let early = 1900 + u16::from(year);
     let late = 2000 + u16::from(year);
     if late.abs_diff(today.year) < early.abs_diff(today.year) {
@@ -23,7 +28,9 @@ pub fn nearest(today: Day, month: u8, day: u8) -> Option<Day> {
 }
 
 // Two digits at a place of a text.
-pub fn two_digits(text: &[u8], at: usize) -> Option<u8> {
+pub fn two_digits(text: &[u8], at: usize) -> Option<u8>
+    ensures { result ≡ two_digits (drop at text.now) }
+{
     match text.get(at..)? {
         [tens @ b'0'..=b'9', ones @ b'0'..=b'9', ..] => Some(10 * (*tens - b'0') + (*ones - b'0')),
         _ => None,
@@ -44,7 +51,9 @@ pub fn read_date(today: Day, text: &[u8]) -> Option<Day> {
 }
 
 // The date of a century, a year in it, a month and a day.
-pub fn joined(century: u8, year: u8, month: u8, day: u8) -> Day {
+pub fn joined(century: u8, year: u8, month: u8, day: u8) -> Day
+    ensures { result ≡ record { year = century * 100 + year; month = month; day = day } }
+{
     Day {
         year: u16::from(century) * 100 + u16::from(year),
         month,

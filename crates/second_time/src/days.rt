@@ -1,4 +1,6 @@
 // Days of the Gregorian calendar and their numbers, counted from the first day of the year 0.
+ghost use Rattle.std.specs.Prelude.{◌≡◌};
+ghost use Rattle.second_time.specs.Days.{days_of_month, is_counted, is_leap};
 
 #[derive(Clone, Copy)]
 pub struct Day {
@@ -10,11 +12,16 @@ pub struct Day {
 // The days of the years 0 to 9999.
 const ALL_DAYS: u64 = 3_652_425;
 
-pub fn is_leap(year: u16) -> bool {
+pub fn is_leap(year: u16) -> bool
+    ensures { result ≡ is_leap year }
+{
     year % 4 == 0 && (year % 100 != 0 || year % 400 == 0)
 }
 
-pub fn month_length(year: u16, month: u8) -> u8 {
+#[tactic(auto, unfolding(crate::specs::Days::days_of_month))]
+pub fn month_length(year: u16, month: u8) -> u8
+    ensures { result ≡ days_of_month year month }
+{
     match month {
         2 => { if is_leap(year) { 29 } else { 28 } }
         4 | 6 | 9 | 11 => 30,
@@ -23,7 +30,9 @@ pub fn month_length(year: u16, month: u8) -> u8 {
 }
 
 // Whether a date stands for a day of the years 1900 to 2099.
-pub fn is_counted(d: Day) -> bool {
+pub fn is_counted(d: Day) -> bool
+    ensures { result ≡ is_counted d }
+{
     (1900..=2099).contains(&d.year)
         && (1..=12).contains(&d.month)
         && (1..=month_length(d.year, d.month)).contains(&d.day)

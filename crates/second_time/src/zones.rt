@@ -1,4 +1,8 @@
 // Zones, the daylight law and UTC.
+ghost use Rattle.std.specs.Prelude.{◌≡◌, ◌+◌, ◌-◌, ◌≤◌};
+ghost use Rattle.second_time.specs.Zones.{zone_of};
+ghost use Rattle.second_time.specs.declared.zones.Daylight.TheVariants.{Never, Always};
+
 use crate::days::Day;
 use crate::moves::{Move, Reading, Unit};
 use crate::{days, moves};
@@ -23,7 +27,9 @@ pub const UTC: Zone = Zone {
 };
 
 // The zone that a word names.
-pub fn named(word: &[u8]) -> Option<Zone> {
+pub fn named(word: &[u8]) -> Option<Zone>
+    ensures { result ≡ zone_of word.now }
+{
     let (letter, daylight) = match word {
         b"Z" => return Some(UTC),
         [letter] => (*letter, Daylight::ByLaw),
@@ -52,7 +58,11 @@ pub fn lawful_daylight(at: Reading) -> bool {
 }
 
 // The hours behind UTC at a local reading.
-pub fn hours_behind(zone: Zone, at: Reading) -> u8 {
+pub fn hours_behind(zone: Zone, at: Reading) -> u8
+    ensures never { zone.daylight ≡ Never → result ≡ zone.behind }
+    ensures always { zone.daylight ≡ Always → result ≡ zone.behind - 1 }
+    ensures saved { (result ≤ zone.behind) × (zone.behind ≤ result + 1) }
+{
     let saved = match zone.daylight {
         Daylight::Never => false,
         Daylight::Always => true,

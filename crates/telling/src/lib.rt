@@ -5,4 +5,4 @@ mod outcomes;
 mod saying;
 
 pub use outcomes::{faults, rows};
-pub use saying::{show, show_text, verdict};
+pub use saying::{say_all, show, show_text, verdict};

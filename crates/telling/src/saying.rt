@@ -1,7 +1,13 @@
 // What is printed of outcomes and texts.
+ghost use Rattle.std.specs.Prelude.{◌≡◌};
+ghost use Rattle.telling.specs.Verdicts.{verdict_of};
+
 use std::alloc::{AllocError, Global};
 
-pub fn verdict(alike: bool, as_told: bool) -> &'static str {
+// What is said behind a case: that it came out otherwise than it is told, or else that the decoders differ on it.
+pub fn verdict(alike: bool, as_told: bool) -> &'static str
+    ensures { result.now ≡ verdict_of alike as_told }
+{
     match (as_told, alike) {
         (false, _) => ", NOT AS TOLD",
         (true, false) => ", THE DECODERS DIFFER",
@@ -9,7 +15,7 @@ pub fn verdict(alike: bool, as_told: bool) -> &'static str {
     }
 }
 
-fn say_all(rt: &HostRuntime, lines: &[String]) -> anyhow::Result<()> {
+pub fn say_all(rt: &HostRuntime, lines: &[String]) -> anyhow::Result<()> {
     for line in lines {
         println!(rt; "{line}")?;
     }

@@ -1,8 +1,11 @@
 // Trials of a decoder against the second one: on the cases of a list as they stand, joined and damaged.
 #![tactic(auto)]
 
+ghost use Rattle.std.specs.Prelude.{◌≡◌, ◌≤◌, IfOk};
+ghost use Rattle.cases.specs.Lists.{count_of_cases};
+
 use cases::Case;
-use reporting::{Tally, case_line, is_as_told, show_difference, show_tally};
+use reporting::{Detail, Tally, is_as_told, show_case, show_difference, show_tally};
 use second::{Day, Outcome};
 use std::alloc::{AllocError, Global};
 
@@ -18,11 +21,12 @@ pub trait Peer {
     ) -> Result<bool, AllocError>;
 }
 
-// A peer, and the runtime of its trials.
+// A peer, the runtime of its trials, and how much of them is printed.
 #[derive_where(Clone, Copy)]
 struct Trials<'a, P: Peer> {
     rt: &'a HostRuntime,
     peer: &'a P,
+    detail: Detail,
 }
 
 fn decoded(heap: Global, case: &Case, text: &[u8]) -> Result<Outcome, AllocError> {
@@ -36,16 +40,17 @@ fn decoded(heap: Global, case: &Case, text: &[u8]) -> Result<Outcome, AllocError
 
 impl<'a, P: Peer> Trials<'a, P> {
     // A case as it stands.
-    fn try_case(&self, case: &Case) -> anyhow::Result<Tally> {
+    fn try_case(&self, case: &Case) -> anyhow::Result<Tally>
+        ensures { IfOk result (λ t. t.texts ≡ 1) }
+    {
         let heap = self.rt.alloc();
         let text = case.text.as_slice();
         let outcome = decoded(heap, case, text)?;
         let alike = self.peer.agrees(heap, case, text, &outcome)?;
-        let as_told = is_as_told(self.rt, case, &outcome)?;
+        let came = telling::rows(heap, &outcome)?;
+        let as_told = is_as_told(self.rt, case, came.as_slice())?;
         let verdict = telling::verdict(alike, as_told);
-        let line = case_line(heap, case.name.as_str(), &outcome, verdict)?;
-        let rt = self.rt;
-        println!(rt; "{line}")?;
+        show_case(self.rt, case.name.as_str(), &outcome, verdict, self.detail)?;
         Ok(Tally::of(&outcome, alike && as_told))
     }
 
@@ -94,9 +99,16 @@ impl<'a, P: Peer> Trials<'a, P> {
     }
 }
 
-// All cases of a list, as they stand, joined and damaged.
-pub fn try_list<P: Peer>(rt: &HostRuntime, peer: &P, list: &str) -> anyhow::Result<Tally> {
-    let trials = Trials { rt, peer };
+// All cases of a list, as they stand, joined and damaged. None is left out.
+pub fn try_list<P: Peer>(
+    rt: &HostRuntime,
+    peer: &P,
+    list: &str,
+    detail: Detail,
+) -> anyhow::Result<Tally>
+    ensures { IfOk result (λ t. count_of_cases list.now ≤ t.texts) }
+{
+    let trials = Trials { rt, peer, detail };
     let mut whole = Tally::default();
     let mut harmed = Tally::default();
     let cases = cases::read_list(rt.alloc(), list)?;
