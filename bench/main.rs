@@ -195,18 +195,24 @@ fn compare_pages(program: &str, dice: &mut Dice) -> io::Result<()> {
 fn time_listing(program: &str, name: &str, text: &[u8]) -> io::Result<()> {
     let input = input_of(text);
     let page = compare_page(program, text)?;
-    let mut times = Vec::new();
+    let (mut times, mut plain_times) = (Vec::new(), Vec::new());
     for _ in 0..101 {
         let start = Instant::now();
         run_listing(program, &input)?;
         times.push(start.elapsed());
+        let start = Instant::now();
+        std::hint::black_box(expected(text));
+        plain_times.push(start.elapsed());
     }
     let middle = median(&mut times).as_secs_f64() * 1e3;
     let best = times[0].as_secs_f64() * 1e3;
+    let speed = input.len() as f64 / best / 1e3;
+    median(&mut plain_times);
+    let plain = plain_times[0].as_secs_f64() * 1e3;
     let first = page.split(|b| *b == b'\n').next().unwrap_or_default();
     let records = String::from_utf8_lossy(first);
     println!(
-        "| {name} | {} | {records} | {middle:.2} | {best:.2} |",
+        "| {name} | {} | {records} | {middle:.2} | {best:.2} | {speed:.1} | {plain:.2} |",
         input.len()
     );
     Ok(())
@@ -238,8 +244,10 @@ fn main() -> io::Result<()> {
 
     let sparse = sample::bulletin_with(dice, BULLETIN_LENGTH, 24);
     println!();
-    println!("| `listing`, the whole program | bytes of input | records | ms | best |");
-    println!("|---|---|---|---|---|");
+    println!(
+        "| `listing`, the whole program | bytes of input | records | ms | best | MB/s | plain page, ms |"
+    );
+    println!("|---|---|---|---|---|---|---|");
     time_listing(&program, "no text", b"")?;
     time_listing(&program, "bulletin with much ordinary text", &sparse)?;
     time_listing(&program, "bulletin, read up to the 801st record", &bulletin)
