@@ -1,12 +1,11 @@
 // Prints awkward lines with their kinds, continuation numbers, words and items, and merged body lines.
 #![tactic(auto)]
 
-mod samples;
 mod show;
 
-use crate::samples::{BODIES, LONG, SAMPLES};
 use crate::show::{show_lines, show_piece};
 use items::Items;
+use line_samples::{BODIES, LONG, SAMPLES};
 use merging::{Header, Merged, Part};
 use printing::Shown;
 use reader::Lines;

@@ -1,4 +1,6 @@
-// The lines that are shown.
+// Awkward lines, long lines, and body lines with their headers, for a table of how they are read.
+#![tactic(auto)]
+
 pub const SAMPLES: [&[u8]; 92] = [
     b"",
     b"\n",
