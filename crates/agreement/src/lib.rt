@@ -1,21 +1,25 @@
 // What the first decoder makes of a text, held to what the second made of it.
 #![tactic(auto)]
 
-ghost use Rattle.std.specs.Prelude.{◌≡◌, IfOk, flat_map};
-ghost use Rattle.agreement.specs.Agreement.{ended, same_answer, same_fault, same_faults, same_outcome};
+mod peer;
+
+ghost use Rattle.std.specs.Prelude.{◌≡◌, ◌+◌, IfOk, flat_map, length, min};
+ghost use Rattle.agreement.specs.Agreement.{as_by_rules, ended, same_answer, same_fault, same_faults, same_outcome};
+ghost use Rattle.daylight.specs.Settings.{setting};
+ghost use Rattle.daylight.specs.Sundays.{law_daylight};
 ghost use Rattle.std.specs.List.{list_all, zip};
 ghost use Rattle.std.specs.Str.{bytes_eq};
 
 use calendar::date::Date;
 use daylight::law_rule::LawRule;
+use line::LINE_LENGTH;
+pub use peer::FirstDecoder;
 use refusals::{Fault, Refusal};
 use second::Outcome;
 use shef::decode::{Answer, decode};
 use sink::listing::Listing;
 use slots::list::Slots;
 use std::alloc::{AllocError, Global};
-
-const LINE_LENGTH: usize = 80;
 
 // Whether the listing has these lines, each with a line feed behind it, and nothing else.
 fn same_lines(heap: Global, listing: &[u8], lines: &[String]) -> Result<bool, AllocError>
@@ -86,7 +90,9 @@ pub fn compare(
     room: usize,
     text: &[u8],
     outcome: &Outcome,
-) -> Result<bool, AllocError> {
+) -> Result<bool, AllocError>
+    ensures { IfOk result (λ same. same ≡ as_by_rules (setting today (λ r. law_daylight r)) (min room (length text.now + 1)) text.now outcome.now) }
+{
     let room = room.min(text.len().saturating_add(1));
     let size = room.checked_mul(LINE_LENGTH).ok_or(AllocError)?;
     let mut bytes = vec![in heap; 0u8; size]?;

@@ -1,6 +1,6 @@
 // Damage of single bytes.
-ghost use Rattle.std.specs.Prelude.{◌≡◌};
-ghost use Rattle.cases.specs.Harms.{harm_of};
+ghost use Rattle.std.specs.Prelude.{◌≡◌, IfOk};
+ghost use Rattle.cases.specs.Harms.{harm_of, harmed};
 
 use std::alloc::{AllocError, Global};
 
@@ -17,8 +17,8 @@ const SIGNS: [u8; 24] = [
     b'H', b'T', b'V', b'a', 10, 13, 9, 200,
 ];
 
-// The harm done to the byte at a place in a round: another byte each round after the first two. A round is a number and no kind, since
-// from the third on only the byte changes with it.
+// The harm done to the byte at a place in a round: another byte each round after the first two. A
+// round is a number and no kind, since from the third on only the byte changes with it.
 pub fn harm_at(place: usize, round: usize) -> Harm
     ensures { result ≡ harm_of place round }
 {
@@ -33,7 +33,9 @@ pub fn harm_at(place: usize, round: usize) -> Harm
 }
 
 // The text with harm done to the byte at a place.
-pub fn damaged(heap: Global, text: &[u8], at: usize, harm: Harm) -> Result<Vec<u8>, AllocError> {
+pub fn damaged(heap: Global, text: &[u8], at: usize, harm: Harm) -> Result<Vec<u8>, AllocError>
+    ensures { IfOk result (λ out. out.items ≡ harmed harm at text.now) }
+{
     let mut out = text.to_vec(heap)?;
     if at < text.len() {
         match harm {

@@ -17,10 +17,10 @@ pub use form::{Case, read_list};
 
 // The lists of cases, each in the form that `read_list` reads: the worked examples of the rules, and
 // messages as river offices send them.
-pub const EXAMPLES: [&str; 2] = [worked::WORKED, offices::OFFICES];
+pub static EXAMPLES: [&str; 2] = [worked::WORKED, offices::OFFICES];
 
 // And many short cases of each rule.
-pub const TRIALS: [&str; 5] = [
+pub static TRIALS: [&str; 5] = [
     structure::STRUCTURE,
     tables::TABLES,
     times::TIMES,

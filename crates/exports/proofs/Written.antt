@@ -1,18 +1,18 @@
 -- What a listing that was empty shows once records were put into it.
-use Rattle.std.proofs.Common.{◌≡◌, ℕ, ◌*◌, List, [], length, take, drop, sym, ap, ◌∙◌}
+use Rattle.std.proofs.Common.{◌≡◌, ℕ, ◌*◌, List, [], length, take, drop, sym, refl, ap, ◌∙◌}
 use Rattle.std.specs.List.{flat_map}
 use Rattle.record.specs.Entries.{Entry}
 use Rattle.line.specs.Lines.{line}
 use Rattle.sink.specs.declared.listing.Listing.{Listing}
 use Rattle.sink.specs.Listings.{Longer, listed, showing}
-use Rattle.sink.specs.Logs.{log, put_all}
-use Rattle.sink.proofs.Puts.{takes_in}
+use Rattle.sink.specs.Logs.{put_all}
+use Rattle.sink.proofs.Puts.{taken}
 
 -- from s to t by records of which n go in; x are the bytes then
 module _ (s t : Listing) (rs : List Entry) (n : ℕ) (x : List ℕ)
     (empty : (listed s).entries ≡ []) (puts : listed t ≡ put_all (listed s) rs) (into : n ≡ length (take (listed s).room rs)) (last : x ≡ t.bytes.now) where
   fitting : (showing t).entries ≡ take (listed s).room rs
-  fitting = ap (λ l. l.entries) (puts ∙ ap (λ h. put_all (log h (listed s).room) rs) empty ∙ takes_in Entry [] (listed s).room rs)
+  fitting = taken (listed s) (listed t) _ rs empty refl puts
 
   many : n ≡ t.count
   many = into ∙ sym (ap length fitting) ∙ (showing t).many

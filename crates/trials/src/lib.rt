@@ -1,8 +1,10 @@
 // Trials of a decoder against the second one: on the cases of a list as they stand, joined and damaged.
 #![tactic(auto)]
 
-ghost use Rattle.std.specs.Prelude.{◌≡◌, ◌≤◌, IfOk};
+ghost use Rattle.std.specs.Prelude.{◌≡◌, ◌≤◌, ℕ, Bool, IfOk, List};
 ghost use Rattle.cases.specs.Lists.{count_of_cases};
+ghost use Rattle.cases.specs.declared.form.Case.{Case};
+ghost use Rattle.second.specs.declared.messages.Outcome.{Outcome};
 
 use cases::Case;
 use reporting::{Detail, Tally, is_as_told, show_case, show_difference, show_tally};
@@ -11,14 +13,18 @@ use std::alloc::{AllocError, Global};
 
 // A decoder that is held to the second one. A trait and no closure, for which `try_list` would need a `requires`.
 pub trait Peer {
-    // Whether it gives this outcome for a text under the date and the room of a case.
+    // Which outcome it gives for a text under the date and the room of a case.
+    ghost gives: { Self → Case → List ℕ → Outcome → Bool };
+
+    // Whether it gives this one.
     fn agrees(
         &self,
         heap: Global,
         case: &Case,
         text: &[u8],
         outcome: &Outcome,
-    ) -> Result<bool, AllocError>;
+    ) -> Result<bool, AllocError>
+        ensures { IfOk result (λ same. same ≡ gives self.now case.now text.now outcome.now) };
 }
 
 // A peer, the runtime of its trials, and how much of them is printed.
