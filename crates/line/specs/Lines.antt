@@ -1,10 +1,9 @@
 -- The listing line of an entry: eighty columns, the last of them a line feed.
-use Rattle.std.specs.Prelude.{ℕ, ◌/◌, ◌%◌, ◌<◌, Bool, true, false, List, [], ◌∷◌, ◌++◌, replicate, Some, None, Option}
+use Rattle.std.specs.Prelude.{ℕ, ◌+◌, ◌/◌, ◌%◌, ◌<◌, Bool, List, [], ◌∷◌, ◌++◌, replicate, Some, None, Option}
 use Rattle.std.specs.Option.{option_map}
 use Rattle.calendar.specs.declared.date.Date.{Date}
 use Rattle.record.specs.declared.series.Series.{Series}
-use Rattle.record.specs.declared.series.Series.TheVariants.{Single, First, Later}
-use Rattle.record.specs.Entries.{Entry}
+use Rattle.record.specs.Entries.{Entry, mark_number, revision_number}
 use Rattle.values.specs.Writing.{digits, written}
 
 -- ccyymmdd
@@ -28,16 +27,12 @@ abbrev pub or_blank : ℕ → Option (List ℕ) → List ℕ
 or_blank width None = replicate width 32
 or_blank width (Some text) = text
 
--- 0, and 1 for a revision
+-- the digit of the number
 abbrev pub revision_sign : Bool → ℕ
-revision_sign false = 48
-revision_sign true = 49
+revision_sign r = 48 + revision_number r
 
--- 0 for a record by itself, 1 for the first of a series, 2 for a later one
 abbrev pub series_sign : Series → ℕ
-series_sign Single = 48
-series_sign First = 49
-series_sign Later = 50
+series_sign s = 48 + mark_number s
 
 -- the fields, of 8, 14, 12, 7, 4, 14, 1, 1, 1 and 8 columns
 abbrev pub fields : Entry → List (List ℕ)

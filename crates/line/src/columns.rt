@@ -14,6 +14,7 @@ ghost use Rattle.record.specs.declared.series.Series.{Series};
 ghost use Rattle.std.specs.Option.{option_map};
 
 use calendar::date::Date;
+use instants::seconds::{HOUR_SECONDS, MINUTE_SECONDS};
 use instants::utc_minute::UtcMinute;
 use instants::utc_time::UtcTime;
 use quantity::parameter::Parameter;
@@ -60,7 +61,7 @@ pub(crate) fn second_in(column: &[u8]) -> Option<UtcTime>
     let hour = u32::from(pair(column[8], column[9]));
     let minute = u32::from(pair(column[10], column[11]));
     let second = u32::from(pair(column[12], column[13]));
-    UtcTime::new(date, hour * 3600 + minute * 60 + second)
+    UtcTime::new(date, hour * HOUR_SECONDS + minute * MINUTE_SECONDS + second)
 }
 
 // The creation time in twelve columns, none where they are blank.

@@ -7,6 +7,7 @@ ghost use Rattle.std.specs.Option.{option_map};
 
 use crate::columns::{minute_in, name_in, parameter_in, second_in, series_in};
 use crate::write::line_of;
+use crate::{LINE_LENGTH, starts};
 use quantity::qualifier::Qualifier;
 use record::record::Record;
 use values::column::parse_value;
@@ -16,15 +17,18 @@ fn fields_in(line: &[u8]) -> Option<Record>
     requires { length line.now ≡ 80 }
     ensures { (e : Entry) → Valid e → line_of e ≡ line.now → option_map entry_of result ≡ Some e }
 {
-    let station = name_in(&line[0..8])?;
-    let observed = second_in(&line[9..23])?;
-    let created = minute_in(&line[24..36]);
-    let parameter = parameter_in(&line[37..44], &line[45..49])?;
-    let value = parse_value(&line[50..64])?;
-    let qualifier = Qualifier::new(line[65])?;
-    let revised = line[67] == b'1';
-    let series = series_in(line[69]);
-    let source = name_in(&line[71..79]);
+    let station = name_in(&line[starts::STATION..starts::STATION + 8])?;
+    let observed = second_in(&line[starts::OBSERVED..starts::OBSERVED + 14])?;
+    let created = minute_in(&line[starts::CREATED..starts::CREATED + 12]);
+    let parameter = parameter_in(
+        &line[starts::CODE..starts::CODE + 7],
+        &line[starts::DURATION..starts::DURATION + 4],
+    )?;
+    let value = parse_value(&line[starts::VALUE..starts::VALUE + 14])?;
+    let qualifier = Qualifier::new(line[starts::QUALIFIER])?;
+    let revised = line[starts::REVISED] == b'1';
+    let series = series_in(line[starts::SERIES]);
+    let source = name_in(&line[starts::SOURCE..starts::SOURCE + 8]);
     Some(Record {
         station,
         observed,
@@ -42,7 +46,7 @@ fn fields_in(line: &[u8]) -> Option<Record>
 pub fn record_of(line: &[u8]) -> Option<Record>
     ensures { MatchOption result ((e : Entry) → Valid e → line_of e ≢ line.now) (λ x. line_of (entry_of x) ≡ line.now) }
 {
-    if line.len() != 80 {
+    if line.len() != LINE_LENGTH {
         return None;
     }
     let record = fields_in(line)?;

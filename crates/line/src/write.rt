@@ -8,7 +8,9 @@ ghost use Rattle.instants.specs.Moments.{moment, minute_of};
 ghost use Rattle.record.specs.Entries.{entry as entry_of, name};
 ghost use Rattle.std.specs.Option.{option_map};
 
+use crate::{LINE_LENGTH, starts};
 use calendar::date::Date;
+use instants::seconds::{HOUR_SECONDS, MINUTE_SECONDS};
 use instants::utc_minute::UtcMinute;
 use instants::utc_time::UtcTime;
 use record::record::Record;
@@ -38,9 +40,9 @@ fn date_text(date: Date) -> [u8; 8]
 fn clock_text(second: u32) -> [u8; 6]
     ensures { result ≡ digits 2 (second / 3600) ++ (digits 2 (second / 60 % 60) ++ digits 2 (second % 60)) }
 {
-    let [h, i] = digits::<2>(second / 3600);
-    let [m, n] = digits::<2>(second / 60 % 60);
-    let [s, t] = digits::<2>(second % 60);
+    let [h, i] = digits::<2>(second / HOUR_SECONDS);
+    let [m, n] = digits::<2>(second / MINUTE_SECONDS % 60);
+    let [s, t] = digits::<2>(second % MINUTE_SECONDS);
     [h, i, m, n, s, t]
 }
 
@@ -99,7 +101,7 @@ fn series_sign(series: Series) -> u8
 }
 
 // The line of a record.
-pub fn line_of(record: &Record) -> [u8; 80]
+pub fn line_of(record: &Record) -> [u8; LINE_LENGTH]
     ensures { result ≡ line_of (entry_of «record».now) }
 {
     let Record {
@@ -113,17 +115,21 @@ pub fn line_of(record: &Record) -> [u8; 80]
         series,
         source,
     } = *record;
-    let mut out = [b' '; 80];
-    put_bytes(&mut out, 0, &station.text);
-    put_bytes(&mut out, 9, &second_text(observed));
-    put_bytes(&mut out, 24, &created_text(created));
-    put_bytes(&mut out, 37, &parameter.code.signs);
-    put_bytes(&mut out, 45, &digits::<4>(u32::from(parameter.duration)));
-    put_bytes(&mut out, 50, &value_text(value));
-    put_bytes(&mut out, 65, &[qualifier.letter]);
-    put_bytes(&mut out, 67, &[revision_sign(revised)]);
-    put_bytes(&mut out, 69, &[series_sign(series)]);
-    put_bytes(&mut out, 71, &source_text(source));
-    out[79] = b'\n';
+    let mut out = [b' '; LINE_LENGTH];
+    put_bytes(&mut out, starts::STATION, &station.text);
+    put_bytes(&mut out, starts::OBSERVED, &second_text(observed));
+    put_bytes(&mut out, starts::CREATED, &created_text(created));
+    put_bytes(&mut out, starts::CODE, &parameter.code.signs);
+    put_bytes(
+        &mut out,
+        starts::DURATION,
+        &digits::<4>(u32::from(parameter.duration)),
+    );
+    put_bytes(&mut out, starts::VALUE, &value_text(value));
+    put_bytes(&mut out, starts::QUALIFIER, &[qualifier.letter]);
+    put_bytes(&mut out, starts::REVISED, &[revision_sign(revised)]);
+    put_bytes(&mut out, starts::SERIES, &[series_sign(series)]);
+    put_bytes(&mut out, starts::SOURCE, &source_text(source));
+    out[LINE_LENGTH - 1] = b'\n';
     out
 }

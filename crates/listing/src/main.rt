@@ -6,6 +6,7 @@ mod input;
 use crate::input::{date_of, split_line};
 use anyhow::anyhow;
 use daylight::law_rule::LawRule;
+use line::LINE_LENGTH;
 use refusals::{Fault, Refusal};
 use shef::decode::{Answer, decode};
 use sink::listing::Listing;
@@ -18,8 +19,6 @@ const INPUT_LIMIT: usize = 65_536;
 const RECORD_ROOM: usize = 800;
 
 const FAULT_ROOM: usize = 800;
-
-const LINE_LENGTH: usize = 80;
 
 // All of standard input, which may not be longer than the limit.
 fn read_input(rt: &HostRuntime) -> anyhow::Result<Vec<u8>> {

@@ -1,11 +1,12 @@
 -- What a record says, in plain numbers and texts.
-use Rattle.std.specs.Prelude.{ℕ, Bool, List, ℤ, Option}
+use Rattle.std.specs.Prelude.{ℕ, Bool, true, false, List, ℤ, Option}
 use Rattle.std.specs.Option.{option_map}
 use Rattle.calendar.specs.declared.date.Date.{Date}
 use Rattle.instants.specs.Moments.{moment, minute_of}
 use Rattle.quantity.specs.Values.{value_of}
 use Rattle.record.specs.declared.record.Record.{Record}
 use Rattle.record.specs.declared.series.Series.{Series}
+use Rattle.record.specs.declared.series.Series.TheVariants.{Single, First, Later}
 use Rattle.record.specs.declared.station.Station.{Station}
 
 pub record Entry : Type 0 where
@@ -42,3 +43,14 @@ entry r = record {
   series = r.series;
   source = option_map name r.source;
 }
+
+-- the number by which users know a revision
+abbrev pub revision_number : Bool → ℕ
+revision_number false = 0
+revision_number true = 1
+
+-- and that of a record by itself, of the first of a series, and of a later one
+abbrev pub mark_number : Series → ℕ
+mark_number Single = 0
+mark_number First = 1
+mark_number Later = 2

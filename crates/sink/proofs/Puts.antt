@@ -1,10 +1,12 @@
 -- What is put into logs.
-use Rattle.std.proofs.Common.{◌≡◌, ℕ, zero, suc, ◌+◌, ◌-◌, List, [], ◌∷◌, ◌++◌, map, length, take, Ok, Err, Result, sym, refl, ap, ◌∙◌, append_assoc, append-nil, arith, MatchResult}
+use Rattle.std.proofs.Common.{◌≡◌, ℕ, zero, suc, ◌+◌, ◌-◌, List, [], ◌∷◌, ◌++◌, ◌<◌, ◌==◌, cond, map, length, take, Ok, Err, Result, sym, refl, ap, ◌∙◌, append_assoc, append-nil, arith, MatchResult}
 use lib.Seq.{take-nil}
+use Rattle.std.proofs.lemmas.Bool.{cond-true, cond-false, eq-eqb, ne_eqb}
 use Rattle.std.proofs.lemmas.List.{map_push}
+use Rattle.slots.specs.declared.list.Full.{Full}
 use Rattle.slots.specs.declared.list.Slots.{Slots}
 use Rattle.slots.specs.Lists.{held, slots_room}
-use Rattle.sink.specs.Logs.{log, put, put_at, put_all, of_slots, TakesIn}
+use Rattle.sink.specs.Logs.{Log, log, put, put_at, put_all, of_slots, TakesIn, put_number}
 
 module _ {T : Type 0} where
   -- what `push` says is a put
@@ -26,6 +28,16 @@ takes_in T h zero (x ∷ xs) = let f = full h xs in let a = append-nil h in let 
 takes_in T h (suc n) (x ∷ xs) =
     let e = takes_in T (h ++ x ∷ []) n xs in let a = append_assoc h (x ∷ []) (take n xs) in let z : suc n - suc (length xs) ≡ n - length xs = omega arith in cc
 
+-- a log that begins empty holds as many of what is put in as it has room for
+pub taken : {T : Type 0} (before after : Log T) (room : ℕ) (xs : List T) → before.entries ≡ [] → before.room ≡ room → after ≡ put_all before xs → after.entries ≡ take room xs
+taken before after room xs empty wide puts =
+    ap (λ l. l.entries) (puts ∙ ap (λ h. put_all (log h before.room) xs) empty ∙ ap (λ n. put_all (log [] n) xs) wide ∙ takes_in _ [] room xs)
+
 pub mapped_put : {T U : Type 0} (f : T → U) (h : List T) (n : ℕ) (x : T) → log (map f (put_at h n x).entries) (put_at h n x).room ≡ put_at (map f h) n (f x)
 mapped_put f h zero x = refl
 mapped_put f h (suc n) x = ap (λ l. log l n) (map_push f h x)
+
+-- whether a put went in says its number
+pub numbered : {A : Type 0} (r : Result A Full) (n : ℕ) → MatchResult r (λ _. 0 < n) (λ _. n ≡ 0) → put_number r ≡ cond (n == 0) 14 0
+numbered (Ok _) n h = sym (cond-false (n == 0) 14 0 (ne_eqb n 0 (λ z. omega arith)))
+numbered (Err _) n h = sym (cond-true (n == 0) 14 0 (eq-eqb n 0 h))

@@ -1,5 +1,6 @@
 -- A list with room for some more, and what it comes to as things are put in.
-use Rattle.std.specs.Prelude.{◌≡◌, ℕ, zero, suc, ◌-◌, List, [], ◌∷◌, ◌++◌, length, take}
+use Rattle.std.specs.Prelude.{◌≡◌, ℕ, zero, suc, ◌-◌, List, [], ◌∷◌, ◌++◌, length, take, Ok, Err, Result}
+use Rattle.slots.specs.declared.list.Full.{Full}
 use Rattle.slots.specs.declared.list.Slots.{Slots}
 use Rattle.slots.specs.Lists.{held, slots_room}
 
@@ -31,3 +32,8 @@ module _ {T : Type 0} where
 -- as many go in as there is room for, in order
 abbrev pub TakesIn : Type 0 → Type 0
 TakesIn T = (h : List T) (n : ℕ) (xs : List T) → put_all (log h n) xs ≡ log (h ++ take n xs) (n - length xs)
+
+-- the number by which users know how a put ended
+abbrev pub put_number : {A : Type 0} → Result A Full → ℕ
+put_number (Ok _) = 0
+put_number (Err _) = 14

@@ -1,9 +1,9 @@
 // A sink, by the log that it means.
-ghost use Rattle.std.specs.Prelude.{◌≡◌, ◌<◌, ◌≤◌, length, MatchOption, MatchResult, slice_index_or};
+ghost use Rattle.std.specs.Prelude.{◌≡◌, ◌==◌, ◌<◌, ◌≤◌, cond, length, MatchOption, MatchResult, slice_index_or};
 ghost use Rattle.record.specs.Entries.{Entry, entry as entry_of};
 ghost use Rattle.record.specs.Validity.{Valid};
 ghost use Rattle.sink.specs.Frames.{Ties};
-ghost use Rattle.sink.specs.Logs.{Log, put};
+ghost use Rattle.sink.specs.Logs.{Log, put, put_number};
 ghost use Rattle.std.specs.List.{AllByRecursion};
 
 use record::record::Record;
@@ -26,6 +26,7 @@ pub trait Sink {
     fn put(&mut self, record: Record) -> Result<(), Full>
         ensures holds { holds self.new ≡ put (holds self.old) (entry_of «record») }
         ensures fits { MatchResult result (λ _. 0 < (holds self.old).room) (λ _. ((holds self.old).room ≡ 0) × (self.new ≡ self.old)) }
+        ensures number { put_number result ≡ cond ((holds self.old).room == 0) 14 0 }
         ensures frame { frame self.old self.new };
 
     // How many records it holds.

@@ -6,7 +6,7 @@ ghost use Rattle.std.specs.List.{flat_map};
 
 use super::Listing;
 use crate::sinks::Sink;
-use line::{line_of, record_of};
+use line::{LINE_LENGTH, line_of, record_of};
 use record::record::Record;
 use slots::list::Full;
 
@@ -32,7 +32,7 @@ impl<'a> Listing<'a> {
     fn written(&self) -> usize
         ensures { result ≡ 80 * self.now.count }
     {
-        80 * self.count
+        LINE_LENGTH * self.count
     }
 }
 
@@ -47,10 +47,10 @@ impl<'a> Sink for Listing<'a> {
 
     fn put(&mut self, record: Record) -> Result<(), Full> {
         let at = self.written();
-        if self.bytes.len() - at < 80 {
+        if self.bytes.len() - at < LINE_LENGTH {
             return Err(Full);
         }
-        self.bytes[at..at + 80].copy_from_slice(&line_of(&record));
+        self.bytes[at..at + LINE_LENGTH].copy_from_slice(&line_of(&record));
         self.count += 1;
         Ok(())
     }
@@ -60,14 +60,14 @@ impl<'a> Sink for Listing<'a> {
     }
 
     fn room(&self) -> usize {
-        (self.bytes.len() - self.written()) / 80
+        (self.bytes.len() - self.written()) / LINE_LENGTH
     }
 
     fn read_back(&self, place: usize) -> Option<Record> {
         if place >= self.count {
             return None;
         }
-        let at = 80 * place;
-        record_of(&self.bytes[at..at + 80])
+        let at = LINE_LENGTH * place;
+        record_of(&self.bytes[at..at + LINE_LENGTH])
     }
 }

@@ -7,8 +7,8 @@ use Rattle.line.proofs.Fields.{some_same}
 use Rattle.line.proofs.read.record_of.Goals as goal
 use Rattle.std.proofs.lemmas.Bool.Decides.{Decides-eqb}
 
-pub returns-then-line-ne80 : goal.returns-then-line-ne80
-returns-then-line-ne80 c e v h = c.if-line-ne80.true (ap length (sym h) ∙ line_long e v)
+pub returns-then-line-ne-LINE_LENGTH : goal.returns-then-line-ne-LINE_LENGTH
+returns-then-line-ne-LINE_LENGTH c e v h = c.if-line-ne-LINE_LENGTH.true (ap length (sym h) ∙ line_long e v)
 
 pub returns-then-eq : goal.returns-then-eq
 returns-then-eq c = sym ((slice_eq-Decides Decides-eqb _ _ _ c.eq.ensures).0 c.if-eq.true ∙ c.as_slice.ensures ∙ c.line_of.ensures)
