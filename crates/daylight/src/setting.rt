@@ -12,7 +12,8 @@ use crate::zone::{Zone, is_saving};
 use calendar::date::Date;
 use instants::utc_time::UtcTime;
 
-// Its fields are public, and clauses see them by `told`: the value of a Model can hold no function, as that of the daylight readings.
+// Clauses see the fields by `told`, which makes of the rule the function that says what readings are daylight. So there is no `impl Model`:
+// what that shows may hold no function.
 #[derive(Drop)]
 pub struct Setting<'r, R> {
     pub today: Date,

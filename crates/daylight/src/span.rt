@@ -3,9 +3,10 @@ ghost use Rattle.std.specs.Prelude.{◌≡◌};
 ghost use Rattle.daylight.specs.Spans.{before_change, between};
 
 use calendar::date::Date;
+use instants::seconds::HOUR_SECONDS;
 
 // The second of the day at which the clock changes.
-const CHANGE: u32 = 7200;
+const CHANGE: u32 = 2 * HOUR_SECONDS;
 
 #[derive(Clone, Copy)]
 pub struct MonthDay {

@@ -9,13 +9,14 @@ use crate::rule::Rule;
 use crate::zone::{Zone, is_saving};
 use calendar::date::Date;
 use instants::moves::{Move, Unit, moved};
+use instants::seconds::HOUR_SECONDS;
 use instants::utc_time::UtcTime;
 
 // Daylight time is one hour less behind.
 fn seconds_behind(zone: Zone, saving: bool) -> u64
     ensures { result ≡ seconds_behind zone saving }
 {
-    u64::from(zone.hours.saturating_sub(u8::from(saving))) * 3600
+    u64::from(zone.hours.saturating_sub(u8::from(saving))) * u64::from(HOUR_SECONDS)
 }
 
 // The time in UTC: the zone's hours are added, one less where daylight time is kept.

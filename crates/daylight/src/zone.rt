@@ -1,5 +1,5 @@
 // Zones and whether they keep daylight time.
-ghost use Rattle.std.specs.Prelude.{◌≡◌};
+ghost use Rattle.std.specs.Prelude.{◌≡◌, ◌==◌};
 ghost use Rattle.daylight.specs.Zones.{hours_of, saving_of, zone_of, keeps_daylight};
 
 use crate::rule::Rule;
@@ -19,7 +19,21 @@ pub struct Zone {
     pub saving: Saving,
 }
 
-// The zone letters and their hours behind UTC. An Option and no TryFrom: nobody asks why a letter names no zone.
+impl Zone {
+    pub const UTC: Zone = Zone {
+        hours: 0,
+        saving: Saving::Standard,
+    };
+
+    // Told by the hours alone: each other zone is some hours behind.
+    pub fn is_utc(self) -> bool
+        ensures { result ≡ (self.hours == 0) }
+    {
+        self.hours == Zone::UTC.hours
+    }
+}
+
+// The zone letters and their hours behind UTC. An Option and no TryFrom, whose error would say no more than None.
 #[tactic(auto, unfolding(crate::specs::Zones::hours_of))]
 fn hours_behind(letter: u8) -> Option<u8>
     ensures { result ≡ hours_of letter }
@@ -54,7 +68,7 @@ pub fn zone_of(word: &[u8]) -> Option<Zone>
     ensures { result ≡ zone_of word.now }
 {
     let (hours, saving) = match *word {
-        [b'Z'] => (0, Saving::Standard),
+        [b'Z'] => return Some(Zone::UTC),
         [letter] => (hours_behind(letter)?, Saving::ByRule),
         [letter, second] => (hours_behind(letter)?, saving_of(second)?),
         _ => return None,

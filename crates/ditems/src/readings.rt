@@ -4,12 +4,7 @@ ghost use Rattle.ditems.specs.Readings.{day_of, second_of, reading_of};
 
 use crate::groups::Groups;
 use calendar::date::Date;
-
-const MINUTE: u32 = 60;
-
-const HOUR: u32 = 3600;
-
-const DAY: u32 = 86_400;
+use instants::seconds::{DAY_SECONDS, HOUR_SECONDS, MINUTE_SECONDS};
 
 #[tactic(auto, unfolding(crate::specs::Readings::day_of))]
 fn day_of(groups: Groups) -> Option<Date>
@@ -26,8 +21,8 @@ fn second_of(groups: Groups) -> Option<u32>
 {
     let minute = u32::from(groups.minute);
     let second = u32::from(groups.second);
-    let all = u32::from(groups.hour) * HOUR + minute * MINUTE + second;
-    (minute < 60 && second < 60 && all <= DAY).then_some(all)
+    let all = u32::from(groups.hour) * HOUR_SECONDS + minute * MINUTE_SECONDS + second;
+    (minute < 60 && second < 60 && all <= DAY_SECONDS).then_some(all)
 }
 
 // A real day of 1900 to 2099 and its second, 0 to 86,400.

@@ -2,5 +2,6 @@
 #![tactic(auto)]
 
 pub mod moves;
+pub mod seconds;
 pub mod utc_minute;
 pub mod utc_time;

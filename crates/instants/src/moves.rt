@@ -4,9 +4,8 @@ ghost use Rattle.calendar.specs.Dates.{date_of};
 ghost use Rattle.instants.specs.Moving.{Moving};
 ghost use Rattle.instants.specs.Moves.{natural, by_seconds, by_days, month_from, by_months, to_month_end, moved};
 
+use crate::seconds::{DAY_SECONDS, HOUR_SECONDS, MINUTE_SECONDS};
 use calendar::date::{Date, LAST_YEAR, date_of, day_number, month_length};
-
-const DAY: u64 = 86_400;
 
 #[derive(Clone, Copy)]
 pub enum Unit {
@@ -45,10 +44,10 @@ fn move_seconds(reading: (Date, u32), distance: i128) -> Option<(Date, u32)>
     ensures { result ≡ by_seconds reading distance }
 {
     let (date, second) = reading;
-    let start = u64::from(day_number(date)) * DAY + u64::from(second);
+    let start = u64::from(day_number(date)) * u64::from(DAY_SECONDS) + u64::from(second);
     let instant = place_from(start, distance)?;
-    let date = day_at(instant / u128::from(DAY))?;
-    Some((date, (instant % u128::from(DAY)) as u32))
+    let date = day_at(instant / u128::from(DAY_SECONDS))?;
+    Some((date, (instant % u128::from(DAY_SECONDS)) as u32))
 }
 
 #[tactic(auto, unfolding(crate::specs::Moves::by_days))]
@@ -105,8 +104,8 @@ pub fn moved(reading: (Date, u32), by: Move, times: u64) -> Option<(Date, u32)>
     let count = i128::from(times) * i128::from(by.count);
     match by.unit {
         Unit::Second => move_seconds(reading, count),
-        Unit::Minute => move_seconds(reading, 60 * count),
-        Unit::Hour => move_seconds(reading, 3600 * count),
+        Unit::Minute => move_seconds(reading, i128::from(MINUTE_SECONDS) * count),
+        Unit::Hour => move_seconds(reading, i128::from(HOUR_SECONDS) * count),
         Unit::Day => Some((move_days(date, count)?, second)),
         Unit::Month => Some((keep_day(date, count)?, second)),
         Unit::Year => Some((keep_day(date, 12 * count)?, second)),

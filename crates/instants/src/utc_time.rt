@@ -3,6 +3,7 @@ ghost use Rattle.std.specs.Prelude.{◌≡◌, ◌/◌, true, if◌then◌else�
 ghost use Rattle.std.specs.Option.{option_map};
 ghost use Rattle.instants.specs.Utc.{utc_time};
 
+use crate::seconds::{DAY_SECONDS, MINUTE_SECONDS};
 use crate::utc_minute::UtcMinute;
 use calendar::date::Date;
 
@@ -19,7 +20,7 @@ impl UtcTime {
     pub fn new(date: Date, second: u32) -> Option<UtcTime>
         ensures { option_map moment result ≡ (if utc_time date second then Some (date, second) else None) }
     {
-        if date.is_message_day() && second < 86_400 {
+        if date.is_message_day() && second < DAY_SECONDS {
             Some(UtcTime { date, second })
         } else {
             None
@@ -32,7 +33,7 @@ impl UtcTime {
     {
         UtcMinute {
             date: self.date,
-            minute: (self.second / 60) as u16,
+            minute: (self.second / MINUTE_SECONDS) as u16,
         }
     }
 }

@@ -10,7 +10,7 @@ ghost use Rattle.openings.specs.Openings.{field, word_at, zone_field};
 
 use calendar::date::Date;
 use calendar::message::message_date;
-use daylight::zone::{Saving, Zone, zone_of};
+use daylight::zone::{Zone, zone_of};
 use items::next_word;
 use reader::Line;
 use record::station::Station;
@@ -93,9 +93,6 @@ impl<'a> Fields<'a> {
                 return zone;
             }
         }
-        Zone {
-            hours: 0,
-            saving: Saving::Standard,
-        }
+        Zone::UTC
     }
 }

@@ -48,7 +48,7 @@ pub fn is_duration(letter: u8) -> bool
     letter == b'V' || duration_of(letter).is_some()
 }
 
-// An Option and no TryFrom: nobody asks why a letter names no unit.
+// What is added to the two digits behind the letter of a DV item. An Option and no TryFrom, whose error would say no more than None.
 fn variable_base(unit: u8) -> Option<u16>
     ensures { result ≡ variable_base unit }
 {

@@ -11,13 +11,20 @@ use crate::qualifier::Qualifier;
 use crate::value::Value;
 use text::is_capital;
 
+// 10^8 in ten-thousandths: each amount is smaller in size.
+const AMOUNT_LIMIT: i64 = 1_000_000_000_000;
+
+// -9999 in ten-thousandths, which says that a value is missing.
+const ABSENT: i64 = -99_990_000;
+
 impl Amount {
     // The amount of a number of ten-thousandths, where a record can hold it.
-    pub fn new(z: i64) -> Option<Amount>
-        ensures { option_map (λ a. a.tenthousandths) result ≡ (if holdable z then Some z else None) }
+    pub fn new(tenthousandths: i64) -> Option<Amount>
+        ensures { option_map (λ a. a.tenthousandths) result ≡ (if holdable tenthousandths then Some tenthousandths else None) }
     {
-        if z > -1_000_000_000_000 && z < 1_000_000_000_000 && z != -99_990_000 {
-            Some(Amount { tenthousandths: z })
+        let is_small = tenthousandths > -AMOUNT_LIMIT && tenthousandths < AMOUNT_LIMIT;
+        if is_small && tenthousandths != ABSENT {
+            Some(Amount { tenthousandths })
         } else {
             None
         }
@@ -25,6 +32,9 @@ impl Amount {
 }
 
 impl Qualifier {
+    // What stands for a qualifier that was not sent.
+    pub const NONE: Qualifier = Qualifier { letter: b'Z' };
+
     // The qualifier of a letter, where it is a capital.
     pub fn new(letter: u8) -> Option<Qualifier>
         ensures { option_map (λ q. q.letter) result ≡ (if capital letter then Some letter else None) }
@@ -38,12 +48,12 @@ impl Qualifier {
 }
 
 // The value that an amount says, -9999 being a missing one; none where the amount is too large.
-pub fn value_from(z: i64) -> Option<Value>
-    ensures { option_map value_of result ≡ (if is_absent z then Some None else (if holdable z then Some (Some z) else None)) }
+pub fn value_from(tenthousandths: i64) -> Option<Value>
+    ensures { option_map value_of result ≡ (if is_absent tenthousandths then Some None else (if holdable tenthousandths then Some (Some tenthousandths) else None)) }
 {
-    if z == -99_990_000 {
+    if tenthousandths == ABSENT {
         Some(Value::Missing)
     } else {
-        Amount::new(z).map(Value::Known)
+        Amount::new(tenthousandths).map(Value::Known)
     }
 }

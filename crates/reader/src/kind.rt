@@ -1,10 +1,12 @@
 // What a line is by how it begins, the number of a continuation, and which lines may be read at all.
 ghost use Rattle.std.specs.Prelude.{◌≡◌, ◌<◌, ◌≤◌, length, drop, IfSome};
-ghost use Rattle.reader.specs.Kinds.{all_printable, blank_here, continuation_of, ending, figures, kind_of, lettered, letters_of, numbered, placed, readable, revisable};
+ghost use Rattle.reader.specs.Kinds.{all_printable, blank_here, continuation_of, ending, figures, kind_of, lettered, letters_of, numbered, placed, printable, readable, revisable};
 ghost use Rattle.reader.specs.Told.{KindsTold, LettersTold, NumbersTold};
 ghost use Rattle.std.specs.Option.{option_map};
 
 use text::{is_digit, two_digits};
+
+const LONGEST_LINE: usize = 1000;
 
 #[derive(Clone, Copy, PartialEq, Eq)]
 pub enum Form {
@@ -129,17 +131,24 @@ pub fn continuation_of(line: &[u8]) -> Option<Continuation>
     }
 }
 
-// Whether a line may be read: at most 1,000 bytes, each printable.
+// Whether a line may be read: it is not too long, and each byte is printable.
 pub fn is_readable(line: &[u8]) -> bool
     ensures { result ≡ readable line.now }
 {
-    line.len() <= 1000 && is_printable(line)
+    line.len() <= LONGEST_LINE && are_printable(line)
 }
 
-fn is_printable(line: &[u8]) -> bool
+// Printable ASCII, and the blank.
+fn is_printable(b: u8) -> bool
+    ensures { result ≡ printable b }
+{
+    matches!(b, b' '..=b'~')
+}
+
+fn are_printable(line: &[u8]) -> bool
     ensures { result ≡ all_printable line.now }
 {
-    line.iter().all(|b| matches!(*b, 32..=126))
+    line.iter().all(|b| is_printable(*b))
 }
 
 // States how a line's beginning tells its kind, its letters and its number, and that no line of a kind, and none with a number, begins

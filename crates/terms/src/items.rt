@@ -33,8 +33,8 @@ impl Terms {
         }
     }
 
-    // The zone is the message's and the setting the whole decode's, so they come apart.
     // The terms after a D item, or none where it breaks its rule or may not stand there.
+    // The zone is the message's and the setting the whole decode's, so they are two parameters.
     #[tactic(auto, unfolding(crate::specs::Items::after_item))]
     pub fn after_item<R: Rule>(
         self,

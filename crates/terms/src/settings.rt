@@ -18,7 +18,7 @@ use quantity::units::Units;
 use quantity::variable::Variable;
 use text::two_digits;
 
-// An Option and no TryFrom: nobody asks why a text names no units.
+// An Option and no TryFrom, whose error would say no more than None.
 fn units_of(rest: &[u8]) -> Option<Units>
     ensures { result ≡ units_of rest.now }
 {

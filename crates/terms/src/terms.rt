@@ -10,7 +10,8 @@ use instants::utc_minute::UtcMinute;
 use quantity::units::Units;
 use quantity::variable::Variable;
 
-// Clauses see them by `standing`. A Model of a type that is Copy gives back the fields, and plain numbers do not say that they are in range.
+// Clauses see them by `standing` and not by an `impl Model`: since terms are Copy, that would have to make terms of the plain numbers
+// again, and of numbers out of range there are none.
 #[derive(Clone, Copy)]
 pub struct Terms {
     pub groups: Groups,
@@ -27,7 +28,7 @@ impl Terms {
         ensures { standing result ≡ the_opening date zone }
     {
         Terms {
-            groups: Groups::new(date, if zone.hours == 0 { 12 } else { 24 }),
+            groups: Groups::new(date, if zone.is_utc() { 12 } else { 24 }),
             created: None,
             units: Units::English,
             variable: None,

@@ -16,23 +16,14 @@ use quantity::units::Units;
 use quantity::value::Value;
 use text::is_capital;
 
-// The letter behind the amount; Z where none stands there.
-fn qualifier_of(value: &[u8]) -> Qualifier
-    ensures { result.letter ≡ qualifier_of value.now }
+// The number of a value and the qualifier behind it, where one stands there.
+fn parted(value: &[u8]) -> (&[u8], Qualifier)
+    ensures number { result.0.now ≡ number_of value.now }
+    ensures qualifier { result.1.letter ≡ qualifier_of value.now }
 {
     match value {
-        [.., last] if is_capital(*last) => Qualifier { letter: *last },
-        _ => Qualifier { letter: b'Z' },
-    }
-}
-
-// What stands before the qualifier.
-fn number_of(value: &[u8]) -> &[u8]
-    ensures { result.now ≡ number_of value.now }
-{
-    match value {
-        [number @ .., last] if is_capital(*last) => number,
-        _ => value,
+        [number @ .., last] if is_capital(*last) => (number, Qualifier { letter: *last }),
+        _ => (value, Qualifier::NONE),
     }
 }
 
@@ -52,7 +43,7 @@ fn read_trace(element: Element) -> Result<Quantity, ValueFault>
     if knows_trace(element.first, element.second) {
         Ok(Quantity {
             value: Value::Known(Amount { tenthousandths: 10 }),
-            qualifier: Qualifier { letter: b'Z' },
+            qualifier: Qualifier::NONE,
         })
     } else {
         Err(ValueFault::Malformed)
@@ -74,8 +65,8 @@ fn value_in(element: Element, units: Units, sent: Value) -> Result<Value, ValueF
 fn read_amount(value: &[u8], element: Element, units: Units) -> Result<Quantity, ValueFault>
     ensures { outcome result ≡ amount_read element units (qualifier_of value.now) (amount_of (number_of value.now)) }
 {
-    let qualifier = qualifier_of(value);
-    let sent = value_sent(number_of(value)).ok_or(ValueFault::Malformed)?;
+    let (number, qualifier) = parted(value);
+    let sent = value_sent(number).ok_or(ValueFault::Malformed)?;
     let value = value_in(element, units, sent)?;
     Ok(Quantity { value, qualifier })
 }
@@ -87,7 +78,7 @@ fn read_for(value: &[u8], element: Element, units: Units) -> Result<Quantity, Va
     match value {
         b"M" | b"MM" => Ok(Quantity {
             value: Value::Missing,
-            qualifier: Qualifier { letter: b'Z' },
+            qualifier: Qualifier::NONE,
         }),
         b"T" => read_trace(element),
         _ => read_amount(value, element, units),
