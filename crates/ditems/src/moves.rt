@@ -5,7 +5,7 @@ ghost use Rattle.ditems.specs.Moves.{unit_of, figures, count_of, move_of};
 use instants::moves::{Move, Unit};
 use text::{is_digit, two_digits};
 
-// An Option and no TryFrom: nobody asks why a letter names no unit.
+// An Option and no TryFrom, whose error would say no more than None.
 fn unit_of(letter: u8) -> Option<Unit>
     ensures { result ≡ unit_of letter }
 {

@@ -1,2 +1,4 @@
 pub mod Opens
 pub mod Saying
+pub mod Only
+pub mod Shows

@@ -9,6 +9,7 @@ ghost use Rattle.record.specs.Stations.{station_of};
 ghost use Rattle.refusals.specs.declared.MessageRefusal.TheVariants as why;
 ghost use Rattle.openings.specs.Openings.{field, opened};
 ghost use Rattle.openings.specs.Found.{opened_as};
+ghost use Rattle.openings.specs.Shown.{OpeningsShown};
 
 mod fields;
 
@@ -68,3 +69,9 @@ pub fn body_station(line: Line<'_>) -> Result<(Station, usize), Fault>
     let station = fields.station()?;
     Ok((station, fields.from))
 }
+
+// An opening is read where behind its letters stand a station's word and a date's, and perhaps a zone's, and else is refused at the
+// word that is none, or at its end.
+pub fn openings_show_their_fields()
+    ensures { OpeningsShown }
+{}
