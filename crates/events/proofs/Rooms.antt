@@ -1,5 +1,7 @@
 -- What room does to a decode.
-use Rattle.std.proofs.Common.{◌≡◌, ℕ, zero, suc, ◌<◌, ◌≤◌, List, [], ◌∷◌, length, refl, ap, arith}
+use Rattle.std.proofs.Common.{◌≡◌, ℕ, zero, suc, ◌<◌, ◌≤◌, List, [], ◌∷◌, ◌++◌, length, refl, ap, arith}
+use Rattle.record.specs.Entries.{Entry}
+use Rattle.refusals.specs.declared.Refusal.TheVariants.{NoRoom}
 use Rattle.events.specs.Events.{Event, logged, refused, fault, records, met, verdict}
 use Rattle.events.specs.Room.{refusals, Rooms}
 
@@ -15,5 +17,10 @@ short n (refused r p ∷ es) h = short n es h
 short zero (logged p e ∷ es) h = refl
 short (suc n) (logged p e ∷ es) h = short n es (omega arith)
 
+runs_out : (before after : List Event) (p : ℕ) (e : Entry) → met (length (records before)) (before ++ logged p e ∷ after) ≡ refusals before ++ fault NoRoom p ∷ []
+runs_out [] after p e = refl
+runs_out (logged q f ∷ es) after p e = runs_out es after p e
+runs_out (refused r q ∷ es) after p e = ap (λ l. fault r q ∷ l) (runs_out es after p e)
+
 pub rooms : Rooms
-rooms = record { ample = ample; short = short }
+rooms = record { ample = ample; short = short; runs_out = runs_out }

@@ -1,6 +1,8 @@
 -- What room does to a decode.
-use Rattle.std.specs.Prelude.{◌≡◌, ℕ, ◌<◌, ◌≤◌, List, [], ◌∷◌, length}
+use Rattle.std.specs.Prelude.{◌≡◌, ℕ, ◌<◌, ◌≤◌, List, [], ◌∷◌, ◌++◌, length}
+use Rattle.record.specs.Entries.{Entry}
 use Rattle.refusals.specs.declared.Fault.{Fault}
+use Rattle.refusals.specs.declared.Refusal.TheVariants.{NoRoom}
 use Rattle.events.specs.Events.{Event, logged, refused, fault, records, met, verdict}
 
 -- the refusals among the events
@@ -14,3 +16,5 @@ pub record Rooms : Type 0 where
   pub ample : (n : ℕ) (es : List Event) → length (records es) ≤ n → (verdict n es ≡ 0) × (met n es ≡ refusals es)
   -- where there is not, the answer is 14
   pub short : (n : ℕ) (es : List Event) → n < length (records es) → verdict n es ≡ 14
+  -- the faults met are then the refusals before the first record without room, and 14 at its place, whatever follows
+  pub runs_out : (before after : List Event) (p : ℕ) (e : Entry) → met (length (records before)) (before ++ logged p e ∷ after) ≡ refusals before ++ fault NoRoom p ∷ []

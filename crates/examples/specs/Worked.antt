@@ -1,11 +1,18 @@
 -- Worked examples of the rules.
-use Rattle.std.specs.Prelude.{◌≡◌, ℕ, ◌+◌, ◌*◌, List, pos, negsuc, Some, None, codes, Option}
+use Rattle.std.specs.Prelude.{◌≡◌, ℕ, ◌+◌, ◌-◌, ◌*◌, false, List, pos, negsuc, Some, None, Err, codes, Option}
 use Rattle.calendar.specs.declared.date.Date.{Date}
+use Rattle.calendar.specs.Dates.{number}
 use Rattle.calendar.specs.Messages.{message_date}
 use Rattle.calendar.specs.Ways.{and_then}
 use Rattle.daylight.specs.Sundays.{law_daylight}
 use Rattle.daylight.specs.Zones.{zone_of}
+use Rattle.events.specs.Events.{fault}
+use Rattle.openings.specs.Openings.{opened}
 use Rattle.quantity.specs.declared.units.Units.TheVariants.{Si}
+use Rattle.reader.specs.declared.kind.Form.TheVariants.{A}
+use Rattle.refusals.specs.Numbers.{number_of}
+use Rattle.refusals.specs.declared.MessageRefusal.TheVariants as why
+use Rattle.refusals.specs.declared.Refusal.TheVariants.{Message}
 use Rattle.terms.specs.declared.stage.Stage.TheVariants.{BeforeSteps}
 use Rattle.daylight.specs.Utc.{utc_of}
 use Rattle.terms.specs.Items.{after_item}
@@ -34,9 +41,14 @@ step_of d word interval step =
 pub record WorkedExamples : Type 0 where
   -- 19 September is 183 days away either way, and the earlier wins; 18 September is nearer ahead
   pub tie : message_date (codes "0919") (day 2024 3 20) ≡ Some (day 2023 9 19)
+  pub tie_behind : number (day 2024 3 20) - number (day 2023 9 19) ≡ 183
+  pub tie_ahead : number (day 2024 9 19) - number (day 2024 3 20) ≡ 183
   pub nearer_ahead : message_date (codes "0918") (day 2024 3 20) ≡ Some (day 2024 9 18)
   -- only the current year and the two beside it are looked at
   pub no_leap_day : message_date (codes "0229") (day 2022 6 1) ≡ None
+  -- an opening with it is refusal 5 at its date
+  pub no_leap_day_refused : opened (day 2022 6 1) A false (0, codes ".A KLMO3 0229 HG 1") ≡ Err (fault (Message why.Date) 9)
+  pub no_leap_day_is_5 : number_of (Message why.Date) ≡ 5
   pub leap_day_ahead : message_date (codes "0229") (day 2023 6 1) ≡ Some (day 2024 2 29)
   -- daylight time begins at 02:00 of its first day
   pub standard_time : in_utc (codes "C") (clock (day 2024 3 10) 1 59) ≡ Some (clock (day 2024 3 10) 7 59)

@@ -1,9 +1,10 @@
-// Worked examples of the rules: proved of the definitions, and worked by the code, one line to each.
+// Worked examples of the rules: proved of the definitions, and worked by the code, one line to each date, time and value.
 #![tactic(auto)]
 
 use crate::worked::{in_utc, step_of, worked_examples};
 use calendar::date::Date;
 use calendar::message::message_date;
+use instants::seconds::{HOUR_SECONDS, MINUTE_SECONDS};
 use instants::utc_time::UtcTime;
 use quantity::codes::code_of;
 use quantity::units::Units;
@@ -26,7 +27,8 @@ fn time_line(out: Stdout, example: &str, found: Option<UtcTime>) -> io::Result<(
         return println!(out; "{example}: none");
     };
     let date = time.date;
-    let (hour, minute) = (time.second / 3600, time.second / 60 % 60);
+    let hour = time.second / HOUR_SECONDS;
+    let minute = time.second / MINUTE_SECONDS % 60;
     println!(out; "{example}: {date} {hour:02}:{minute:02}")
 }
 

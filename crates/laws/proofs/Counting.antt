@@ -11,7 +11,7 @@ use Rattle.reader.specs.declared.kind.Form.TheVariants.{A, B, E}
 use Rattle.record.specs.Entries.{Entry}
 use Rattle.record.specs.declared.series.Series.TheVariants.{Single}
 use Rattle.refusals.specs.declared.ItemRefusal.{ItemRefusal}
-use Rattle.refusals.specs.declared.ItemRefusal.TheVariants.{DItem, NoCode}
+use Rattle.refusals.specs.declared.ItemRefusal.TheVariants.{DItem, NoCodeOrInterval}
 use Rattle.refusals.specs.declared.Refusal.TheVariants.{Item}
 use Rattle.terms.specs.Items.{after_item}
 use Rattle.terms.specs.Standing.{Standing}
@@ -83,7 +83,7 @@ module _ (S : Setting) (m : Common) (p : Reached) (item : List ℕ) where
   unfolding item_of_body
   body_tallies =
       by_empty B p.code (is_empty item) (is_d item) _ _ _ (refl, refl) (d_tallies B p.code S m p Free item refl)
-      (then_tallies B p.code 1 (ok_or p.code NoCode) _ (λ code. then_tallies B p.code 1 (valued S.daylight m p.terms code item Single 0) _ (λ e. (refl, refl))))
+      (then_tallies B p.code 1 (ok_or p.code NoCodeOrInterval) _ (λ code. then_tallies B p.code 1 (valued S.daylight m p.terms code item Single 0) _ (λ e. (refl, refl))))
 
   header_zero : (a b : Bool) (x y z : Turned) → Tallies B p.code 0 x → Tallies B p.code 0 y → Tallies B p.code 0 z → Tallies B p.code 0 (cond a x (cond b y z))
   header_zero true b x y z hx hy hz = hx
@@ -96,7 +96,7 @@ module _ (S : Setting) (m : Common) (p : Reached) (item : List ℕ) where
       header_zero (is_empty item) (is_d item) _ _ _ (silent_tallies B p.code p refl) (d_tallies B p.code S m p Free item refl)
       (then_tallies B p.code 0 (code_read item) _ (λ code. (refl, refl)))
 
-  step_tallies : (code : List ℕ) (b : Bool) → p.code ≡ Some code → Tallies E (Some code) 1 (cond b (gives (next_step p true) (valued S.daylight m p.terms code item (mark_of_step p.begun) p.steps)) (Err NoCode))
+  step_tallies : (code : List ℕ) (b : Bool) → p.code ≡ Some code → Tallies E (Some code) 1 (cond b (gives (next_step p true) (valued S.daylight m p.terms code item (mark_of_step p.begun) p.steps)) (Err NoCodeOrInterval))
   step_tallies code true e = then_tallies E (Some code) 1 (valued S.daylight m p.terms code item (mark_of_step p.begun) p.steps) _ (λ x. (refl, ap (due E) e))
   step_tallies code false e = tt
 

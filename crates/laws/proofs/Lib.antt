@@ -8,6 +8,7 @@ pub mod Few
 pub mod Steady
 pub mod Heading
 pub mod Table
+pub mod Unfit
 pub mod FromOpening
 pub mod Naming
 pub mod Marking

@@ -5,6 +5,7 @@ pub mod Readings
 pub mod Counts
 pub mod Headings
 pub mod LineTable
+pub mod Unreadable
 pub mod TableTexts
 pub mod Origins
 pub mod Breaks

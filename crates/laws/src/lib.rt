@@ -11,6 +11,7 @@ ghost use Rattle.laws.specs.Outside.{LinesOutside};
 ghost use Rattle.laws.specs.Readings.{RecordsAreReadings};
 ghost use Rattle.laws.specs.TableTexts.{TablesRead};
 ghost use Rattle.laws.specs.Tables.{BodyLines};
+ghost use Rattle.laws.specs.Unreadable.{UnreadableRefused};
 
 // Lines outside messages that are no continuation give nothing, and neither does what follows a refusal up to the next opening.
 pub fn lines_outside_add_nothing()
@@ -50,6 +51,12 @@ pub fn headers_never_fail_again()
 // What a line comes to goes by one table of the stages of reading and the kinds of line.
 pub fn lines_go_by_a_table()
     ensures { LineTable }
+{}
+
+// An opening, a continuation inside a message or a body line without a first dot that may not be read is refused for that, whatever
+// stands in it; any other line that may not be read does what one of its kind does.
+pub fn unreadable_lines_are_refused_first()
+    ensures { UnreadableRefused }
 {}
 
 // The records of a message have the station and the source that its opening and its body lines name, the opening's revision, and
