@@ -55,7 +55,7 @@ Clear es = AllByRecursion Not13 (refusals es)
 not_item : (r : ItemRefusal) → number_of (Item r) ≡ 13 → ⊥
 not_item item.DItem h = omega arith
 not_item item.Code h = omega arith
-not_item item.NoCode h = omega arith
+not_item item.NoCodeOrInterval h = omega arith
 not_item item.NoDuration h = omega arith
 not_item item.Value h = omega arith
 not_item item.TooLarge h = omega arith

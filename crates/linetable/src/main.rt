@@ -55,15 +55,29 @@ fn show_merged<'a>(rt: &HostRuntime, header: &'a [u8], line: &'a [u8]) -> io::Re
     Ok(())
 }
 
-fn main(rt: HostRuntime) -> io::Result<()> {
+fn show_samples(rt: &HostRuntime) -> io::Result<()> {
     for sample in &SAMPLES {
-        show_text(&rt, sample)?;
-    }
-    for (len, end) in &LONG {
-        show_long(&rt, *len, end)?;
-    }
-    for (header, line) in &BODIES {
-        show_merged(&rt, header, line)?;
+        show_text(rt, sample)?;
     }
     Ok(())
+}
+
+fn show_longs(rt: &HostRuntime) -> io::Result<()> {
+    for (len, end) in &LONG {
+        show_long(rt, *len, end)?;
+    }
+    Ok(())
+}
+
+fn show_bodies(rt: &HostRuntime) -> io::Result<()> {
+    for (header, line) in &BODIES {
+        show_merged(rt, header, line)?;
+    }
+    Ok(())
+}
+
+fn main(rt: HostRuntime) -> io::Result<()> {
+    show_samples(&rt)?;
+    show_longs(&rt)?;
+    show_bodies(&rt)
 }

@@ -12,7 +12,7 @@ use Rattle.record.specs.Entries.{Entry}
 use Rattle.record.specs.declared.series.Series.{Series}
 use Rattle.record.specs.declared.series.Series.TheVariants.{Single}
 use Rattle.refusals.specs.declared.ItemRefusal.{ItemRefusal}
-use Rattle.refusals.specs.declared.ItemRefusal.TheVariants.{DItem, Code, NoCode}
+use Rattle.refusals.specs.declared.ItemRefusal.TheVariants.{DItem, Code, NoCodeOrInterval}
 use Rattle.terms.specs.Items.{after_item}
 use Rattle.terms.specs.Observed.{observed_at}
 use Rattle.terms.specs.declared.stage.Stage.{Stage}
@@ -148,8 +148,8 @@ module _ (S : Setting) (m : Common) (p : Reached) where
 
   module _ (form-is : m.form ≡ B) where
     says_alone : (item : List ℕ) (o : Option (List ℕ)) → p.code ≡ o
-        → As value_alone item false true (then_ok (ok_or o NoCode) (λ code. gives (with_code p None) (valued S.daylight m p.terms code item Single 0)))
-    says_alone item None is = says_refused _ NoCode
+        → As value_alone item false true (then_ok (ok_or o NoCodeOrInterval) (λ code. gives (with_code p None) (valued S.daylight m p.terms code item Single 0)))
+    says_alone item None is = says_refused _ NoCodeOrInterval
     says_alone item (Some code) is =
         says_value (record { code = p.code; text = item; step = 0 }) code is Single (ap (λ f. mark_in f p.begun) (sym form-is)) (with_code p None)
         (λ e. ap (λ f. begun_after f p.begun (Some e)) (sym form-is))
@@ -160,11 +160,11 @@ module _ (S : Setting) (m : Common) (p : Reached) where
 
   module _ (form-is : m.form ≡ E) where
     says_step : (item code : List ℕ) → p.code ≡ Some code → (b : Bool)
-        → As step item false true (cond b (gives (next_step p true) (valued S.daylight m p.terms code item (mark_of_step p.begun) p.steps)) (Err NoCode))
+        → As step item false true (cond b (gives (next_step p true) (valued S.daylight m p.terms code item (mark_of_step p.begun) p.steps)) (Err NoCodeOrInterval))
     says_step item code is true =
         says_value (record { code = p.code; text = item; step = p.steps }) code is (mark_of_step p.begun) (ap (λ f. mark_in f p.begun) (sym form-is)) (next_step p true)
         (λ e. ap (λ f. begun_after f p.begun (Some e)) (sym form-is))
-    says_step item code is false = says_refused _ NoCode
+    says_step item code is false = says_refused _ NoCodeOrInterval
 
     says_e : (o : Option (List ℕ)) → p.code ≡ o → (item : List ℕ)
         → As (role_in E o) item (is_d item) (is_plain item) (cond (is_d item) (d_item S m p (stage_of p.steps) item) (code_or_step S m p o item))

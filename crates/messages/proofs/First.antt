@@ -4,7 +4,7 @@ use Rattle.std.specs.Option.{ok_or}
 use Rattle.calendar.specs.declared.date.Date.{Date}
 use Rattle.record.specs.Entries.{Entry}
 use Rattle.refusals.specs.declared.ItemRefusal.{ItemRefusal}
-use Rattle.refusals.specs.declared.ItemRefusal.TheVariants.{DItem, Code, NoCode, NoDuration, Value, TooLarge, NoTime}
+use Rattle.refusals.specs.declared.ItemRefusal.TheVariants.{DItem, Code, NoCodeOrInterval, NoDuration, Value, TooLarge, NoTime}
 use Rattle.values.specs.Reading.{Stated}
 use Rattle.values.specs.declared.reading.ValueFault.{ValueFault}
 use Rattle.values.specs.declared.reading.ValueFault.TheVariants as fault
@@ -43,7 +43,7 @@ then_first P (Err k) f h = record {
 abbrev pub Fails : Option (List ℕ × ℕ) → Result Stated ValueFault → Option (Date × ℕ) → ItemRefusal → Type 0
 Fails q v o DItem = ⊥
 Fails q v o Code = ⊥
-Fails q v o NoCode = ⊥
+Fails q v o NoCodeOrInterval = ⊥
 Fails q v o NoDuration = q ≡ None
 Fails q v o Value = v ≡ Err fault.Malformed
 Fails q v o TooLarge = v ≡ Err fault.TooLarge
@@ -55,7 +55,7 @@ chain q v o f = then_ok (ok_or q NoDuration) (λ x. then_ok (item_refusal v) (λ
 from_nine : (q : Option (List ℕ × ℕ)) (v : Result Stated ValueFault) (o : Option (Date × ℕ)) (s : ItemRefusal) → Fails q v o s → 9 ≤ number s
 from_nine q v o DItem h = absurd h
 from_nine q v o Code h = absurd h
-from_nine q v o NoCode h = absurd h
+from_nine q v o NoCodeOrInterval h = absurd h
 from_nine q v o NoDuration h = omega arith
 from_nine q v o Value h = omega arith
 from_nine q v o TooLarge h = omega arith
@@ -64,7 +64,7 @@ from_nine q v o NoTime h = omega arith
 from_ten : (x : List ℕ × ℕ) (v : Result Stated ValueFault) (o : Option (Date × ℕ)) (s : ItemRefusal) → Fails (Some x) v o s → 10 ≤ number s
 from_ten x v o DItem h = absurd h
 from_ten x v o Code h = absurd h
-from_ten x v o NoCode h = absurd h
+from_ten x v o NoCodeOrInterval h = absurd h
 from_ten x v o NoDuration h = cc
 from_ten x v o Value h = omega arith
 from_ten x v o TooLarge h = omega arith
@@ -73,7 +73,7 @@ from_ten x v o NoTime h = omega arith
 from_eleven : (x : List ℕ × ℕ) (o : Option (Date × ℕ)) (s : ItemRefusal) → Fails (Some x) (Err fault.TooLarge) o s → 11 ≤ number s
 from_eleven x o DItem h = absurd h
 from_eleven x o Code h = absurd h
-from_eleven x o NoCode h = absurd h
+from_eleven x o NoCodeOrInterval h = absurd h
 from_eleven x o NoDuration h = cc
 from_eleven x o Value h = cc
 from_eleven x o TooLarge h = omega arith
@@ -82,7 +82,7 @@ from_eleven x o NoTime h = omega arith
 from_twelve : (x : List ℕ × ℕ) (y : Stated) (o : Option (Date × ℕ)) (s : ItemRefusal) → Fails (Some x) (Ok y) o s → 12 ≤ number s
 from_twelve x y o DItem h = absurd h
 from_twelve x y o Code h = absurd h
-from_twelve x y o NoCode h = absurd h
+from_twelve x y o NoCodeOrInterval h = absurd h
 from_twelve x y o NoDuration h = cc
 from_twelve x y o Value h = cc
 from_twelve x y o TooLarge h = cc
@@ -91,7 +91,7 @@ from_twelve x y o NoTime h = omega arith
 none_fails : (x : List ℕ × ℕ) (y : Stated) (z : Date × ℕ) (s : ItemRefusal) → Fails (Some x) (Ok y) (Some z) s → ⊥
 none_fails x y z DItem h = h
 none_fails x y z Code h = h
-none_fails x y z NoCode h = h
+none_fails x y z NoCodeOrInterval h = h
 none_fails x y z NoDuration h = cc
 none_fails x y z Value h = cc
 none_fails x y z TooLarge h = cc

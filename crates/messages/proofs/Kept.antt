@@ -10,7 +10,7 @@ use Rattle.reader.specs.declared.kind.Form.{Form}
 use Rattle.reader.specs.declared.kind.Form.TheVariants.{A, B, E}
 use Rattle.record.specs.Entries.{Entry}
 use Rattle.refusals.specs.declared.ItemRefusal.{ItemRefusal}
-use Rattle.refusals.specs.declared.ItemRefusal.TheVariants.{DItem, Code, NoCode}
+use Rattle.refusals.specs.declared.ItemRefusal.TheVariants.{DItem, Code, NoCodeOrInterval}
 use Rattle.terms.specs.Items.{after_item}
 use Rattle.terms.specs.Standing.{Standing}
 use Rattle.terms.specs.declared.stage.Stage.{Stage}
@@ -67,7 +67,7 @@ module _ (S : Setting) (m : Common) (p : Reached) (coded : Coded p) where
   keeps_step : (o : Option (List ℕ)) (item : List ℕ) → Keeps (code_or_step S m p o item)
   unfolding step_of_e
   keeps_step None item = keeps_cond (is_empty item) _ _ coded (new_code item (code_of item) refl)
-  keeps_step (Some code) item = keeps_cond (is_empty item) _ _ coded (keeps_cond (is_some p.terms.interval) (gives (next_step p true) (valued S.daylight m p.terms code item (mark_of_step p.begun) p.steps)) (Err NoCode) (keeps_gives (next_step p true) coded _) tt)
+  keeps_step (Some code) item = keeps_cond (is_empty item) _ _ coded (keeps_cond (is_some p.terms.interval) (gives (next_step p true) (valued S.daylight m p.terms code item (mark_of_step p.begun) p.steps)) (Err NoCodeOrInterval) (keeps_gives (next_step p true) coded _) tt)
 
   keeps_line : (f : Form) (item : List ℕ) → Keeps (item_of_line f S m p item)
   unfolding item_of_a item_of_body item_of_e
@@ -75,7 +75,7 @@ module _ (S : Setting) (m : Common) (p : Reached) (coded : Coded p) where
       keeps_cond (is_empty item) _ _ coded (keeps_cond (is_d item) _ _ (keeps_d Free item) (keeps_then (code_read (split_item item).0) _ (λ code. keeps_gives p coded _)))
   keeps_line B item =
       let used = with_code p None in
-      keeps_cond (is_empty item) _ _ (no_code used refl) (keeps_cond (is_d item) _ _ (keeps_d Free item) (keeps_then (ok_or p.code NoCode) _ (λ code. keeps_gives used (no_code used refl) _)))
+      keeps_cond (is_empty item) _ _ (no_code used refl) (keeps_cond (is_d item) _ _ (keeps_d Free item) (keeps_then (ok_or p.code NoCodeOrInterval) _ (λ code. keeps_gives used (no_code used refl) _)))
   keeps_line E item = keeps_cond (is_d item) _ _ (keeps_d (stage_of p.steps) item) (keeps_step p.code item)
 
   pub keeps_turn : (x : Sided) → Keeps (turn S m p x)

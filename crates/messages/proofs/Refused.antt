@@ -11,7 +11,7 @@ use Rattle.reader.specs.declared.kind.Form.TheVariants.{A, B, E}
 use Rattle.record.specs.declared.series.Series.{Series}
 use Rattle.record.specs.declared.series.Series.TheVariants.{Single}
 use Rattle.refusals.specs.declared.ItemRefusal.{ItemRefusal}
-use Rattle.refusals.specs.declared.ItemRefusal.TheVariants.{DItem, Code, NoCode, NoDuration, Value, TooLarge, NoTime}
+use Rattle.refusals.specs.declared.ItemRefusal.TheVariants.{DItem, Code, NoCodeOrInterval, NoDuration, Value, TooLarge, NoTime}
 use Rattle.terms.specs.Items.{after_item}
 use Rattle.terms.specs.Observed.{observed_at}
 use Rattle.terms.specs.Standing.{Standing}
@@ -31,7 +31,7 @@ use Rattle.messages.proofs.Values.{unnumbered, numberless, malformed, of_malform
 pub six : (r : ItemRefusal) → 6 ≤ number r
 six DItem = omega arith
 six Code = omega arith
-six NoCode = omega arith
+six NoCodeOrInterval = omega arith
 six NoDuration = omega arith
 six Value = omega arith
 six TooLarge = omega arith
@@ -53,7 +53,7 @@ module _ (S : Setting) (m : Common) where
     fails_lem : (r : ItemRefusal) → AskedInVain S m t a r → Failing r
     fails_lem DItem h = h
     fails_lem Code h = h
-    fails_lem NoCode h = h
+    fails_lem NoCodeOrInterval h = h
     fails_lem NoDuration h = let same : h.0 ≡ code = cc in numberless code t.variable (ap (λ c. is_variable (slice_index c 2)) (sym same) ∙ h.1.1.0) h.1.1.1
     fails_lem Value h = malformed code t.units a.text good (ap (λ c. is_value c a.text) (sym has) ∙ h)
     fails_lem TooLarge h = let same : h.0 ≡ code = cc in outgrown code t.units a.text (subst (λ c. Outgrown c t.units a.text) same h.1.1)
@@ -65,7 +65,7 @@ module _ (S : Setting) (m : Common) where
     asked_vain : (r : ItemRefusal) → Failing r → AskedInVain S m t a r
     asked_vain DItem h = h
     asked_vain Code h = h
-    asked_vain NoCode h = h
+    asked_vain NoCodeOrInterval h = h
     asked_vain NoDuration h = let l = unnumbered code t.variable good h in (code, (has, l))
     asked_vain Value h = ap (λ c. is_value c a.text) has ∙ of_malformed code t.units a.text good h
     asked_vain TooLarge h = (code, (has, of_outgrown code t.units a.text good h))
@@ -82,7 +82,7 @@ module _ (S : Setting) (m : Common) where
   abbrev By : Reached → Stage → Role → List ℕ → Bool → Bool → ItemRefusal → Type 0
   By p stage role item d plain DItem = (d ≡ true) × (after_item S.today S.daylight m.zone stage item p.terms ≡ None)
   By p stage role item d plain Code = (signs : List ℕ) × ((cond plain (signs_in role item) None ≡ Some signs) × (code_of signs ≡ None))
-  By p stage role item d plain NoCode = (plain ≡ true) × Lacks role p
+  By p stage role item d plain NoCodeOrInterval = (plain ≡ true) × Lacks role p
   By p stage role item d plain NoDuration = (a : Asked) × ((cond plain (asked_in role p item) None ≡ Some a) × AskedInVain S m p.terms a NoDuration)
   By p stage role item d plain Value = (a : Asked) × ((cond plain (asked_in role p item) None ≡ Some a) × AskedInVain S m p.terms a Value)
   By p stage role item d plain TooLarge = (a : Asked) × ((cond plain (asked_in role p item) None ≡ Some a) × AskedInVain S m p.terms a TooLarge)
@@ -93,7 +93,7 @@ module _ (S : Setting) (m : Common) where
     nothing : (r : ItemRefusal) → By p stage role item false false r → ⊥
     nothing DItem h = let e = h.0 in cc
     nothing Code h = let e = h.1.0 in cc
-    nothing NoCode h = let e = h.0 in cc
+    nothing NoCodeOrInterval h = let e = h.0 in cc
     nothing NoDuration h = let e = h.1.0 in cc
     nothing Value h = let e = h.1.0 in cc
     nothing TooLarge h = let e = h.1.0 in cc
@@ -106,7 +106,7 @@ module _ (S : Setting) (m : Common) where
     d_fails : (t : Standing) → after_item S.today S.daylight m.zone stage item p.terms ≡ Some t → (r : ItemRefusal) → By p stage role item true false r → ⊥
     d_fails t e DItem h = let other = h.1 in cc
     d_fails t e Code h = let e = h.1.0 in cc
-    d_fails t e NoCode h = let e = h.0 in cc
+    d_fails t e NoCodeOrInterval h = let e = h.0 in cc
     d_fails t e NoDuration h = let e = h.1.0 in cc
     d_fails t e Value h = let e = h.1.0 in cc
     d_fails t e TooLarge h = let e = h.1.0 in cc
@@ -124,7 +124,7 @@ module _ (S : Setting) (m : Common) where
     seven : (r : ItemRefusal) → By p stage role item false true r → 7 ≤ number r
     seven DItem h = let e = h.0 in cc
     seven Code h = omega arith
-    seven NoCode h = omega arith
+    seven NoCodeOrInterval h = omega arith
     seven NoDuration h = omega arith
     seven Value h = omega arith
     seven TooLarge h = omega arith
@@ -133,7 +133,7 @@ module _ (S : Setting) (m : Common) where
     eight : (By p stage role item false true Code → ⊥) → (r : ItemRefusal) → By p stage role item false true r → 8 ≤ number r
     eight n DItem h = let e = h.0 in cc
     eight n Code h = absurd (n h)
-    eight n NoCode h = omega arith
+    eight n NoCodeOrInterval h = omega arith
     eight n NoDuration h = omega arith
     eight n Value h = omega arith
     eight n TooLarge h = omega arith
@@ -144,7 +144,7 @@ module _ (S : Setting) (m : Common) where
       of_vain : (r : ItemRefusal) → Vain p.terms a r → By p stage role item false true r
       of_vain DItem h = absurd h.1.1
       of_vain Code h = absurd h.1.1
-      of_vain NoCode h = absurd h.1.1
+      of_vain NoCodeOrInterval h = absurd h.1.1
       of_vain NoDuration h = (h.0, (asked ∙ h.1.0, h.1.1))
       of_vain Value h = (h.0, (asked ∙ h.1.0, h.1.1))
       of_vain TooLarge h = (h.0, (asked ∙ h.1.0, h.1.1))
@@ -153,7 +153,7 @@ module _ (S : Setting) (m : Common) where
       in_vain : (r : ItemRefusal) → By p stage role item false true r → Vain p.terms a r
       in_vain DItem h = let e = h.0 in cc
       in_vain Code h = absurd (coded h)
-      in_vain NoCode h = absurd (full-handed h.1)
+      in_vain NoCodeOrInterval h = absurd (full-handed h.1)
       in_vain NoDuration h = (h.0, (sym asked ∙ h.1.0, h.1.1))
       in_vain Value h = (h.0, (sym asked ∙ h.1.0, h.1.1))
       in_vain TooLarge h = (h.0, (sym asked ∙ h.1.0, h.1.1))
@@ -169,7 +169,7 @@ module _ (S : Setting) (m : Common) where
     code_fails : (stage : Stage) (code : List ℕ) → code_of item ≡ Some code → (r : ItemRefusal) → By p stage code_alone item false true r → ⊥
     code_fails stage code is DItem h = let e = h.0 in cc
     code_fails stage code is Code h = let e = h.1.0 in let f = h.1.1 in cc
-    code_fails stage code is NoCode h = h.1
+    code_fails stage code is NoCodeOrInterval h = h.1
     code_fails stage code is NoDuration h = let e = h.1.0 in cc
     code_fails stage code is Value h = let e = h.1.0 in cc
     code_fails stage code is TooLarge h = let e = h.1.0 in cc
@@ -189,17 +189,17 @@ module _ (S : Setting) (m : Common) where
 
     -- a value on a body line
     value_by : (o : Option (List ℕ)) → p.code ≡ o
-        → First (By p Free value_alone item false true) (then_ok (ok_or o NoCode) (λ code. gives (with_code p None) (valued S.daylight m p.terms code item Single 0)))
-    value_by None is = one_applies (By p Free value_alone item false true) NoCode (refl, is) (eight p Free value_alone item (λ h. let e = h.1.0 in cc))
+        → First (By p Free value_alone item false true) (then_ok (ok_or o NoCodeOrInterval) (λ code. gives (with_code p None) (valued S.daylight m p.terms code item Single 0)))
+    value_by None is = one_applies (By p Free value_alone item false true) NoCodeOrInterval (refl, is) (eight p Free value_alone item (λ h. let e = h.1.0 in cc))
     value_by (Some code) is =
         asked_first p Free value_alone item (record { code = p.code; text = item; step = 0 }) refl (λ h. let e = h.1.0 in cc) (λ h. cc) code is (held code is) Single (with_code p None)
 
     -- a step
     step_by : (stage : Stage) (code : List ℕ) → p.code ≡ Some code → (b : Bool) → is_some p.terms.interval ≡ b
-        → First (By p stage step item false true) (cond b (gives (next_step p true) (valued S.daylight m p.terms code item (mark_of_step p.begun) p.steps)) (Err NoCode))
+        → First (By p stage step item false true) (cond b (gives (next_step p true) (valued S.daylight m p.terms code item (mark_of_step p.begun) p.steps)) (Err NoCodeOrInterval))
     step_by stage code is true i =
         asked_first p stage step item (record { code = p.code; text = item; step = p.steps }) refl (λ h. let e = h.1.0 in cc) (λ h. let e = ap is_some h in cc) code is (held code is) (mark_of_step p.begun) (next_step p true)
-    step_by stage code is false i = one_applies (By p stage step item false true) NoCode (refl, none_is p.terms.interval i) (eight p stage step item (λ h. let e = h.1.0 in cc))
+    step_by stage code is false i = one_applies (By p stage step item false true) NoCodeOrInterval (refl, none_is p.terms.interval i) (eight p stage step item (λ h. let e = h.1.0 in cc))
 
   module _ (p : Reached) (held : Coded p) where
     abbrev As : Stage → Role → List ℕ → Bool → Bool → Turned → Type 0
@@ -242,7 +242,7 @@ module _ (S : Setting) (m : Common) where
     alike : (x : Sided) (r : ItemRefusal) → By p (stage_at m p x) (role_of m p x) (bytes_of x) (is_d (bytes_of x)) (is_plain (bytes_of x)) r ≡ Applies S m p x r
     alike x DItem = refl
     alike x Code = refl
-    alike x NoCode = refl
+    alike x NoCodeOrInterval = refl
     alike x NoDuration = refl
     alike x Value = refl
     alike x TooLarge = refl

@@ -11,7 +11,7 @@ use Rattle.quantity.specs.declared.element.Element.{Element}
 use Rattle.quantity.specs.declared.units.Units.{Units}
 use Rattle.refusals.specs.Numbers.{number_of}
 use Rattle.refusals.specs.declared.ItemRefusal.{ItemRefusal}
-use Rattle.refusals.specs.declared.ItemRefusal.TheVariants.{DItem, Code, NoCode, NoDuration, Value, TooLarge, NoTime}
+use Rattle.refusals.specs.declared.ItemRefusal.TheVariants.{DItem, Code, NoCodeOrInterval, NoDuration, Value, TooLarge, NoTime}
 use Rattle.refusals.specs.declared.Refusal.TheVariants.{Item}
 use Rattle.values.specs.Numbers.{amount_of}
 use Rattle.values.specs.Reading.{number_of as figures_of, is_missing, is_trace, knows_trace, in_english}
@@ -48,7 +48,7 @@ Lacks step p = p.terms.interval ≡ None
 abbrev pub AskedInVain : Setting → Common → Standing → Asked → ItemRefusal → Type 0
 AskedInVain S m t a DItem = ⊥
 AskedInVain S m t a Code = ⊥
-AskedInVain S m t a NoCode = ⊥
+AskedInVain S m t a NoCodeOrInterval = ⊥
 -- its code has duration V, and no DV is in force
 AskedInVain S m t a NoDuration = (code : List ℕ) × ((a.code ≡ Some code) × ((is_variable (slice_index code 2) ≡ true) × (t.variable ≡ None)))
 -- its text is absent or no value of its code
@@ -68,7 +68,7 @@ Applies S m p x DItem = (is_d (bytes_of x) ≡ true) × (after_item S.today S.da
 -- 7: a code breaks its rule
 Applies S m p x Code = (signs : List ℕ) × ((item_signs m p x ≡ Some signs) × (code_of signs ≡ None))
 -- 8: a value has no code left for it, or as a step no interval
-Applies S m p x NoCode = (is_plain (bytes_of x) ≡ true) × Lacks (role_of m p x) p
+Applies S m p x NoCodeOrInterval = (is_plain (bytes_of x) ≡ true) × Lacks (role_of m p x) p
 Applies S m p x NoDuration = ValueInVain S m p x NoDuration
 Applies S m p x Value = ValueInVain S m p x Value
 Applies S m p x TooLarge = ValueInVain S m p x TooLarge

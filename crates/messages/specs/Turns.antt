@@ -18,7 +18,7 @@ use Rattle.record.specs.declared.series.Series.{Series}
 use Rattle.record.specs.declared.series.Series.TheVariants.{Single, First, Later}
 use Rattle.refusals.specs.Faults.{refusal_of}
 use Rattle.refusals.specs.declared.ItemRefusal.{ItemRefusal}
-use Rattle.refusals.specs.declared.ItemRefusal.TheVariants.{DItem, Code, NoCode, NoDuration, NoTime}
+use Rattle.refusals.specs.declared.ItemRefusal.TheVariants.{DItem, Code, NoCodeOrInterval, NoDuration, NoTime}
 use Rattle.values.specs.Reading.{Stated, read_value}
 use Rattle.values.specs.declared.reading.ValueFault.{ValueFault}
 use Rattle.daylight.specs.Settings.{Setting}
@@ -95,7 +95,7 @@ mark_of_step false = First
 unfoldable pub step_of_e : (Date × ℕ → Bool) → Common → Reached → List ℕ → List ℕ → Turned
 step_of_e daylight m p code item =
     cond (is_empty item) (silent (next_step p p.begun))
-    (cond (is_some p.terms.interval) (gives (next_step p true) (valued daylight m p.terms code item (mark_of_step p.begun) p.steps)) (Err NoCode))
+    (cond (is_some p.terms.interval) (gives (next_step p true) (valued daylight m p.terms code item (mark_of_step p.begun) p.steps)) (Err NoCodeOrInterval))
 
 abbrev pub stage_of : ℕ → Stage
 stage_of steps = cond (steps == 0) BeforeSteps AmongSteps
@@ -123,7 +123,7 @@ unfoldable pub item_of_body : Setting → Common → Reached → List ℕ → Tu
 item_of_body S m p item =
     cond (is_empty item) (silent (with_code p None))
     (cond (is_d item) (d_item S m p Free item)
-    (then_ok (ok_or p.code NoCode) (λ code. gives (with_code p None) (valued S.daylight m p.terms code item Single 0))))
+    (then_ok (ok_or p.code NoCodeOrInterval) (λ code. gives (with_code p None) (valued S.daylight m p.terms code item Single 0))))
 
 abbrev pub item_of_line : Form → Setting → Common → Reached → List ℕ → Turned
 item_of_line form.A = item_of_a

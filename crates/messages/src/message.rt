@@ -1,5 +1,5 @@
 // A message as it is read: what its records have in common, and how far it has come. Clauses see these by `common`, `reached` and
-// `turned`. A Model of a type that is Copy gives back the fields, and plain numbers do not say that they are in range.
+// `turned` and not by an `impl Model`, for the reason told at `Terms`.
 use daylight::zone::Zone;
 use quantity::code::Code;
 use reader::Form;

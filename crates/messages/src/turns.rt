@@ -170,7 +170,7 @@ impl Message {
             return Ok(Progress { steps, ..progress }.silent());
         }
         if progress.terms.interval.is_none() {
-            return Err(ItemRefusal::NoCode);
+            return Err(ItemRefusal::NoCodeOrInterval);
         }
         let series = series_of(progress.begun);
         let record = self.record(progress.terms, code, item, series, progress.steps, setting)?;
@@ -217,7 +217,7 @@ impl Message {
         if item.is_empty() {
             return Ok(used.silent());
         }
-        let code = progress.code.ok_or(ItemRefusal::NoCode)?;
+        let code = progress.code.ok_or(ItemRefusal::NoCodeOrInterval)?;
         let record = self.record(progress.terms, code, item, Series::Single, 0, setting)?;
         Ok(Turn {
             progress: used,

@@ -4,7 +4,7 @@ use Rattle.refusals.specs.declared.Refusal.{Refusal}
 use Rattle.refusals.specs.declared.Refusal.TheVariants.{CurrentDate, NoRoom}
 use Rattle.refusals.specs.declared.Refusal.TheVariants as refusal
 use Rattle.refusals.specs.declared.MessageRefusal.TheVariants.{Unreadable, Continuation, Station, Date, Unfinished}
-use Rattle.refusals.specs.declared.ItemRefusal.TheVariants.{DItem, Code, NoCode, NoDuration, Value, TooLarge, NoTime}
+use Rattle.refusals.specs.declared.ItemRefusal.TheVariants.{DItem, Code, NoCodeOrInterval, NoDuration, Value, TooLarge, NoTime}
 use Rattle.refusals.specs.declared.Layer.{Layer}
 use Rattle.refusals.specs.declared.Layer.TheVariants as layer
 
@@ -24,7 +24,7 @@ number_of (refusal.Item DItem) = 6
 -- a code breaks its rule
 number_of (refusal.Item Code) = 7
 -- a value has no code left for it, or as a step no interval
-number_of (refusal.Item NoCode) = 8
+number_of (refusal.Item NoCodeOrInterval) = 8
 -- a value's code has duration V and no DV is in force
 number_of (refusal.Item NoDuration) = 9
 -- a value is absent or breaks its rule

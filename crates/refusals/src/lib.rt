@@ -12,30 +12,46 @@ use values::reading::ValueFault;
 // A line of a message, or one of its fields.
 #[derive(Clone, Copy, PartialEq, Eq)]
 pub enum MessageRefusal {
+    // A line is too long or has a byte outside 32 to 126.
     Unreadable,
+    // A continuation has nothing to continue or breaks its rule.
     Continuation,
+    // A station or source is missing or malformed.
     Station,
+    // A date is missing, malformed or on no day.
     Date,
+    // A .B message is not finished.
     Unfinished,
 }
 
 // An item of a message.
 #[derive(Clone, Copy, PartialEq, Eq)]
 pub enum ItemRefusal {
+    // A D item breaks its rule.
     DItem,
+    // A code breaks its rule.
     Code,
-    NoCode,
+    // A value has no code left for it, or as a step no interval.
+    NoCodeOrInterval,
+    // A value's code has duration V and no DV is in force.
     NoDuration,
+    // A value is absent or breaks its rule.
     Value,
+    // A converted value is too large.
     TooLarge,
+    // The observation time is no time, or outside 1900 to 2099 in UTC.
     NoTime,
 }
 
 #[derive(Clone, Copy, PartialEq, Eq)]
 pub enum Refusal {
+    // The current date is no day of 1900 to 2099.
     CurrentDate,
+    // A line of a message, or one of its fields, breaks its rule.
     Message(MessageRefusal),
+    // An item of a message cannot be read.
     Item(ItemRefusal),
+    // The sink has no room.
     NoRoom,
 }
 
@@ -124,7 +140,7 @@ impl Refusal {
             Refusal::Message(MessageRefusal::Date) => 5,
             Refusal::Item(ItemRefusal::DItem) => 6,
             Refusal::Item(ItemRefusal::Code) => 7,
-            Refusal::Item(ItemRefusal::NoCode) => 8,
+            Refusal::Item(ItemRefusal::NoCodeOrInterval) => 8,
             Refusal::Item(ItemRefusal::NoDuration) => 9,
             Refusal::Item(ItemRefusal::Value) => 10,
             Refusal::Item(ItemRefusal::TooLarge) => 11,

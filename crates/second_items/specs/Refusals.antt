@@ -1,7 +1,7 @@
 -- The number of each refusal.
 use Rattle.std.specs.Prelude.{ℕ}
 use Rattle.second_items.specs.declared.refusals.Refusal.{Refusal}
-use Rattle.second_items.specs.declared.refusals.Refusal.TheVariants.{CurrentDate, Unreadable, Continuation, Station, Date, Setting, Code, NoCode, NoDuration, Value, TooLarge, NoTime, Unfinished, NoRoom}
+use Rattle.second_items.specs.declared.refusals.Refusal.TheVariants.{CurrentDate, Unreadable, Continuation, Station, Date, Setting, Code, NoCodeOrInterval, NoDuration, Value, TooLarge, NoTime, Unfinished, NoRoom}
 
 abbrev pub number_of : Refusal → ℕ
 number_of CurrentDate = 1
@@ -11,7 +11,7 @@ number_of Station = 4
 number_of Date = 5
 number_of Setting = 6
 number_of Code = 7
-number_of NoCode = 8
+number_of NoCodeOrInterval = 8
 number_of NoDuration = 9
 number_of Value = 10
 number_of TooLarge = 11

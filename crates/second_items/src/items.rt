@@ -173,7 +173,7 @@ impl Reader {
             return Ok(());
         }
         if message.state.interval.is_none() {
-            return Err(Trouble::Found(Refusal::NoCode.at(item.place)));
+            return Err(Trouble::Found(Refusal::NoCodeOrInterval.at(item.place)));
         }
         let sent = Sent {
             step,
@@ -209,7 +209,7 @@ impl Reader {
             if item.bytes.is_empty() {
                 continue;
             }
-            let (_, code, _) = column.ok_or(Refusal::NoCode.at(item.place))?;
+            let (_, code, _) = column.ok_or(Refusal::NoCodeOrInterval.at(item.place))?;
             let sent = Sent {
                 station,
                 source: message.name,

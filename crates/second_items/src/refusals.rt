@@ -15,7 +15,7 @@ pub enum Refusal {
     Date = 5,
     Setting = 6,
     Code = 7,
-    NoCode = 8,
+    NoCodeOrInterval = 8,
     NoDuration = 9,
     Value = 10,
     TooLarge = 11,
@@ -56,12 +56,16 @@ pub enum Trouble {
 }
 
 impl From<AllocError> for Trouble {
+    ghost from_gives = { λ _ r. r ≡ trouble.Memory };
+
     fn from(_e: AllocError) -> Trouble {
         Trouble::Memory
     }
 }
 
 impl<T: Drop> From<AllocFailed<T>> for Trouble {
+    ghost from_gives = { λ _ r. r ≡ trouble.Memory };
+
     fn from(_e: AllocFailed<T>) -> Trouble {
         Trouble::Memory
     }

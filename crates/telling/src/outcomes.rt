@@ -29,17 +29,27 @@ fn row(heap: Global, line: &str) -> Result<String, AllocError> {
     Ok(out)
 }
 
-// Records, then faults, then the answer where it is not 0.
-pub fn rows(heap: Global, outcome: &Outcome) -> Result<Vec<String>, AllocError> {
-    let mut out = Vec::new(heap);
+fn push_records(heap: Global, out: &mut Vec<String>, outcome: &Outcome) -> Result<(), AllocError> {
     for line in outcome.records.iter() {
         out.push(row(heap, line.as_str())?)?;
     }
+    Ok(())
+}
+
+fn push_faults(heap: Global, out: &mut Vec<String>, outcome: &Outcome) -> Result<(), AllocError> {
     for fault in outcome.faults.iter() {
         let number = fault.refusal.number();
         let place = fault.place;
         out.push(format!(in heap; "fault {number} at {place}")?)?;
     }
+    Ok(())
+}
+
+// Records, then faults, then the answer where it is not 0.
+pub fn rows(heap: Global, outcome: &Outcome) -> Result<Vec<String>, AllocError> {
+    let mut out = Vec::new(heap);
+    push_records(heap, &mut out, outcome)?;
+    push_faults(heap, &mut out, outcome)?;
     if outcome.answer != Answer::Ended {
         let number = outcome.answer.number();
         out.push(format!(in heap; "(decode answers {number})")?)?;
