@@ -8,7 +8,7 @@ use Rattle.reader.specs.Lines.{Piece}
 use Rattle.reader.specs.declared.kind.Form.TheVariants.{E}
 use Rattle.record.specs.Entries.{Entry}
 use Rattle.refusals.specs.declared.ItemRefusal.{ItemRefusal}
-use Rattle.refusals.specs.declared.ItemRefusal.TheVariants.{DItem, NoCode}
+use Rattle.refusals.specs.declared.ItemRefusal.TheVariants.{DItem, NoCodeOrInterval}
 use Rattle.terms.specs.Items.{after_item}
 use Rattle.terms.specs.Observed.{observed_at}
 use Rattle.terms.specs.Standing.{Standing}
@@ -59,12 +59,12 @@ module _ (S : Setting) (m : Common) (is : m.form ≡ E) where
     abbrev step_value : Result Entry ItemRefusal
     step_value = valued S.daylight m p.terms code q.1 (mark_of_step p.begun) p.steps
 
-    plain_way : (b : Bool) → is_d q.1 ≡ false → is_empty q.1 ≡ false → turn S m p (of_line q) ≡ cond b (gives (next_step p true) step_value) (Err NoCode) → Way p q
+    plain_way : (b : Bool) → is_d q.1 ≡ false → is_empty q.1 ≡ false → turn S m p (of_line q) ≡ cond b (gives (next_step p true) step_value) (Err NoCodeOrInterval) → Way p q
     plain_way true d n e = value_way step_value d n e
-    plain_way false d n e = stopped NoCode e
+    plain_way false d n e = stopped NoCodeOrInterval e
 
     step_way : (b : Bool) → is_d q.1 ≡ false → is_empty q.1 ≡ b
-        → turn S m p (of_line q) ≡ cond b (silent (next_step p p.begun)) (cond (is_some p.terms.interval) (gives (next_step p true) step_value) (Err NoCode)) → Way p q
+        → turn S m p (of_line q) ≡ cond b (silent (next_step p p.begun)) (cond (is_some p.terms.interval) (gives (next_step p true) step_value) (Err NoCodeOrInterval)) → Way p q
     step_way true d n e = empty d n e
     step_way false d n e = plain_way (is_some p.terms.interval) d n e
 

@@ -14,7 +14,7 @@ pub trait Parts<'a>: Drop {
     ghost ahead: { Self → List Sided };
 
     fn next_part(&mut self) -> Option<Part<'a>>
-        ensures { MatchOption result (ahead self.old ≡ []) (λ x. ahead self.old ≡ sided x ∷ ahead self.new) };
+        ensures { MatchOption result ((ahead self.old ≡ []) × (ahead self.new ≡ [])) (λ x. ahead self.old ≡ sided x ∷ ahead self.new) };
 }
 
 // The items of an opening line or a continuation.

@@ -208,7 +208,7 @@ fn read_text<S: Sink, R: Rule>(
     ensures lent { refused.new.list.ghost_name ≡ refused.old.list.ghost_name }
 {
     dated(setting.today)?;
-    let mut machine = Machine::new(text);
+    let mut machine = Machine::new();
     let mut lines = Lines::new(text);
     while let Some(line) = lines.next_line() {
         refused.close_before(&machine, line);

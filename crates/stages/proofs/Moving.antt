@@ -1,5 +1,5 @@
 -- What a line comes to, from what it does.
-use Rattle.std.proofs.Common.{◌≡◌, ℕ, zero, suc, ◌+◌, Bool, true, false, ◌&&◌, eqb, List, [], ◌∷◌, ◌++◌, take, drop, is_some, Some, None, Ok, Err, Option, sym, refl, ap, ◌∙◌, subst, ⊎_elim, append_assoc, append-nil, arith, MatchOption}
+use Rattle.std.proofs.Common.{◌≡◌, ℕ, zero, suc, ◌+◌, Bool, true, false, cond, ◌&&◌, eqb, List, [], ◌∷◌, ◌++◌, take, drop, is_some, Some, None, Ok, Err, Option, sym, refl, ap, ◌∙◌, subst, ⊎_elim, append_assoc, append-nil, arith, MatchOption, MatchResult, Result}
 use Rattle.std.proofs.lemmas.Bool.{cond-true, cond-false, cases_Bool, true≢false, eq-eqb, ne_eqb}
 use Rattle.std.specs.Option.{option_map}
 use Rattle.reader.specs.Kinds.{continuation_of, kind_of}
@@ -23,7 +23,7 @@ use Rattle.refusals.specs.declared.Refusal.TheVariants.{Message}
 use Rattle.sink.specs.Logs.{Log}
 use Rattle.terms.specs.Standing.{Standing}
 use Rattle.events.specs.Events.{Event, fault, refused}
-use Rattle.events.specs.Passing.{Passed, StopsAt, Stopped}
+use Rattle.events.specs.Passing.{Comes, Passed, StopsAt, Stopped}
 use Rattle.items.specs.Words.{first_word}
 use Rattle.reader.specs.declared.kind.LineKind.{LineKind}
 use Rattle.reader.specs.declared.kind.LineKind.TheVariants.{Dotted}
@@ -34,7 +34,7 @@ use Rattle.logging.specs.Follow.{follow}
 use Rattle.logging.specs.Own.{own_items}
 use Rattle.openings.proofs.Saying.{Says}
 use Rattle.openings.specs.Openings.{Opened, field, opened}
-use Rattle.stages.specs.Stages.{Stage, body, header, Moved, onto, reads, refuses, came, opens_to, begins, continues_as, continues, of_station, line_of, body_line, same_form, same_bool, follows, by_kind, next, is_table}
+use Rattle.stages.specs.Stages.{Stage, outside, behind, body, header, Moved, onto, reads, refuses, came, opens_to, begins, continues_as, continues, of_station, line_of, body_line, same_form, same_bool, follows, by_kind, next, is_table}
 
 stops_says : {K : Type 0} (x : Fault) (m : Log Entry) (rest : K → List Event) → Says x → ((k : K) → rest k ≡ refused x.refusal x.place ∷ []) → StopsAt x.refusal x.place m rest
 stops_says {K} x m rest says h =
@@ -146,9 +146,18 @@ tied_more n ls l rest e = (take_next n ls l rest e).1
 pub at_row : (S : Setting) (l : Piece) {σ τ : Stage} {k : LineKind} → k ≡ kind_of l.1 → σ ≡ τ → next S σ l ≡ by_kind S τ l k
 at_row S l {σ} {τ} {k} ek eσ = ap (by_kind S σ l) (sym ek) ∙ ap (λ x. by_kind S x l k) eσ
 
--- no table's header stands before a line with another first dot
-pub refuses_dotted : (S : Setting) (l : Piece) (m : Common) (t : Standing) (p : Reached) (n : ℕ) (hs : List Piece) → is_table m.form ≡ true → by_kind S (header m t p n hs) l Dotted ≡ refuses (fault (Message why.Unfinished) l.0)
-refuses_dotted S l m t p n hs e = cond-true (is_table m.form) _ _ e
+-- behind a header a line with another first dot ends a message, and is refused where it is a table's
+pub left_dotted : {Q : Type 0} (S : Setting) (h : Log Entry) (l : Piece) (m : Common) (hs : List Piece) (t : Standing) (σ : Stage) (r : Result Q Fault) {X : Moved}
+    → X ≡ behind m t hs l Dotted
+    → MatchResult r (λ _. (is_table m.form ≡ false) × (σ ≡ outside)) (λ f. (is_table m.form ≡ true) × (f ≡ fault (Message why.Unfinished) l.0))
+    → Comes r h h (came S X) (λ _ k. k σ)
+left_dotted S h l m hs t σ (Ok _) row w = line_onto S σ (row ∙ cond-false (is_table m.form) _ _ w.0 ∙ ap onto (sym w.1))
+left_dotted S h l m hs t σ (Err f) row w =
+    line_refused S f (row ∙ cond-true (is_table m.form) _ _ w.0 ∙ ap refuses (sym w.1)) (why.Unfinished, ap (λ x. x.refusal) w.1)
+
+-- a header is left at an .END, a table's or not
+pub left_at_end : (S : Setting) {h : Log Entry} (σ : Stage) (b : Bool) {X : Moved} → X ≡ cond b (onto outside) (onto outside) → σ ≡ outside → Passed h h (came S X) (λ k. k σ)
+left_at_end S σ b row e = line_onto S σ (row ∙ ⊎_elim (λ t. cond-true b _ _ t) (λ f. cond-false b _ _ f) (cases_Bool b) ∙ ap onto (sym e))
 
 -- a line has a word exactly where it is not blank
 pub word_not_blank : {X : Type 0} (f : X → ℕ × (List ℕ × List ℕ)) (o : Option X) (bs : List ℕ) → option_map f o ≡ first_word bs → is_some o ≡ true → is_blank bs ≡ false

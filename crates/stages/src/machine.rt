@@ -1,12 +1,16 @@
 // What each kind of line does in each stage.
-ghost use Rattle.std.specs.Prelude.{◌≡◌, ◌+◌, ◌<◌, true, false, List, ◌∷◌, drop, MatchOption, IsOk, OnOk};
+ghost use Rattle.std.specs.Prelude.{◌≡◌, ◌+◌, ◌<◌, true, false, List, ◌∷◌, drop, MatchOption, MatchResult, OnErr, OnOk};
+ghost use Rattle.events.specs.Events.{fault as fault_at};
 ghost use Rattle.events.specs.Passing.{Comes};
 ghost use Rattle.daylight.specs.Settings.{told};
 ghost use Rattle.messages.specs.Models.{common, reached};
-ghost use Rattle.reader.specs.Kinds.{kind_of};
+ghost use Rattle.reader.specs.Kinds.{kind_of, readable};
+ghost use Rattle.reader.specs.declared.kind.LineKind.TheVariants as kind;
+ghost use Rattle.refusals.specs.declared.MessageRefusal.TheVariants as why;
+ghost use Rattle.refusals.specs.declared.Refusal.TheVariants as refusal;
 ghost use Rattle.reader.specs.Lines.{Piece, line_piece, lines_ahead};
 ghost use Rattle.stages.specs.Machines.{header_of, stage_of, Tied};
-ghost use Rattle.stages.specs.Stages.{begins, body_line, came, closing, continues, continues_as, is_table, next, outside, skipping};
+ghost use Rattle.stages.specs.Stages.{begins, behind, body_line, came, closing, continues, continues_as, is_table, next, outside, skipping};
 ghost use Rattle.stages.specs.Told.{closed};
 ghost use Rattle.terms.specs.Standing.{standing};
 
@@ -47,15 +51,27 @@ impl Open {
     }
 }
 
+// A line is held to its length and its bytes before anything in it is read.
+fn checked(line: Line<'_>) -> Result<(), Fault>
+    ensures { MatchResult result (λ _. readable line.entry.part.now ≡ true) (λ f. (readable line.entry.part.now ≡ false) × (f ≡ fault_at (refusal.Message why.Unreadable) line.entry.place)) }
+{
+    if is_readable(line.part) {
+        Ok(())
+    } else {
+        Err(MessageRefusal::Unreadable.at(line.place))
+    }
+}
+
 impl<'a> Machine<'a> {
-    pub fn new(text: &'a [u8]) -> Machine<'a>
+    // Before a text, where no message is open.
+    pub fn new() -> Machine<'a>
         ensures stage { stage_of result ≡ outside }
         ensures tied { (ls : List Piece) → Tied result ls }
     {
         Machine {
             stage: Stage::Outside,
             opening: Items::none(),
-            lines: Lines::new(text),
+            lines: Lines::new(&[]),
         }
     }
 
@@ -72,10 +88,9 @@ impl<'a> Machine<'a> {
         ensures cases { Comes result (S.Sink.holds sink.old) (S.Sink.holds sink.new) (came (told R.daylight setting.now) (begins (told R.daylight setting.now) form revised (line_piece line.entry))) (λ _ k. k (stage_of self.new)) }
         ensures tied { OnOk result (Tied self.new (lines_ahead behind.entry)) }
         ensures frame { S.Sink.frame sink.old sink.new }
+        ensures refused { OnErr result (self.new ≡ self.old) }
     {
-        if !is_readable(line.part) {
-            return Err(MessageRefusal::Unreadable.at(line.place));
-        }
+        checked(line)?;
         let opening = read_opening(line, form, revised, setting.today)?;
         let (_, rest) = line.part.split_at(opening.start);
         let items = Items::of_line(rest, line.place + opening.start);
@@ -113,10 +128,9 @@ impl<'a> Machine<'a> {
         ensures cases { (rest : List Piece) → drop held.number (lines_ahead self.old.lines) ≡ (line_piece line.entry) ∷ rest → Comes result (S.Sink.holds sink.old) (S.Sink.holds sink.new) (came (told R.daylight setting.now) (continues (common held.message) (standing held.terms) (reached held.progress) held.number (header_of self.old held.number) form revised (line_piece line.entry))) (λ _ k. k (stage_of self.new)) }
         ensures tied { (rest : List Piece) → drop held.number (lines_ahead self.old.lines) ≡ (line_piece line.entry) ∷ rest → OnOk result (Tied self.new rest) }
         ensures frame { S.Sink.frame sink.old sink.new }
+        ensures refused { OnErr result (self.new ≡ self.old) }
     {
-        if !is_readable(line.part) {
-            return Err(MessageRefusal::Unreadable.at(line.place));
-        }
+        checked(line)?;
         let Some(number) = held.next_number(form, revised, line.part) else {
             return Err(MessageRefusal::Continuation.at(line.place));
         };
@@ -144,10 +158,9 @@ impl<'a> Machine<'a> {
         ensures cases { Comes result (S.Sink.holds sink.old) (S.Sink.holds sink.new) (came (told R.daylight setting.now) (body_line (common held.message) (standing held.terms) (header_of self.old held.number) (line_piece line.entry))) (λ _ k. k (stage_of self.new)) }
         ensures tied { OnOk result ((rest : List Piece) → Tied self.new rest) }
         ensures frame { S.Sink.frame sink.old sink.new }
+        ensures refused { OnErr result (self.new ≡ self.old) }
     {
-        if !is_readable(line.part) {
-            return Err(MessageRefusal::Unreadable.at(line.place));
-        }
+        checked(line)?;
         if next_word(line.part).is_none() {
             self.stage = Stage::Body(held);
             return Ok(());
@@ -167,13 +180,44 @@ impl<'a> Machine<'a> {
         Ok(())
     }
 
-    // The open message has ended. The answer is the row's: nothing is refused.
-    fn end(&mut self) -> Result<(), Fault>
-        ensures ok { IsOk result }
+    // The open message has ended.
+    fn end(&mut self)
         ensures stage { stage_of self.new ≡ outside }
         ensures tied { (rest : List Piece) → Tied self.new rest }
     {
         self.stage = Stage::Outside;
+    }
+
+    // Behind a header a line with another first dot ends a message, but a table is unfinished there.
+    fn end_header(&mut self, held: Open, line: Line<'a>) -> Result<(), Fault>
+        ensures cases { MatchResult result (λ _. (is_table held.message.form ≡ false) × (stage_of self.new ≡ outside)) (λ f. (is_table held.message.form ≡ true) × (f ≡ fault_at (refusal.Message why.Unfinished) line.entry.place)) }
+        ensures tied { OnOk result ((rest : List Piece) → Tied self.new rest) }
+        ensures refused { OnErr result (self.new ≡ self.old) }
+    {
+        if held.is_table() {
+            return Err(MessageRefusal::Unfinished.at(line.place));
+        }
+        self.end();
+        Ok(())
+    }
+
+    // Behind a header a table's body begins, and any other message has ended.
+    fn leave_header<S: Sink, R: Rule>(
+        &mut self,
+        held: Open,
+        line: Line<'a>,
+        setting: &Setting<'_, R>,
+        sink: &mut S,
+    ) -> Result<(), Fault>
+        ensures cases { Comes result (S.Sink.holds sink.old) (S.Sink.holds sink.new) (came (told R.daylight setting.now) (behind (common held.message) (standing held.terms) (header_of self.old held.number) (line_piece line.entry) kind.Other)) (λ _ k. k (stage_of self.new)) }
+        ensures tied { OnOk result ((rest : List Piece) → Tied self.new rest) }
+        ensures frame { S.Sink.frame sink.old sink.new }
+        ensures refused { OnErr result (self.new ≡ self.old) }
+    {
+        if held.is_table() {
+            return self.read_body(held, line, setting, sink);
+        }
+        self.end();
         Ok(())
     }
 
@@ -188,6 +232,7 @@ impl<'a> Machine<'a> {
         ensures cases { Tied self.old ((line_piece line.entry) ∷ lines_ahead behind.entry) → Comes result (S.Sink.holds sink.old) (S.Sink.holds sink.new) (came (told R.daylight setting.now) (next (told R.daylight setting.now) (stage_of self.old) (line_piece line.entry))) (λ _ k. k (stage_of self.new)) }
         ensures tied { Tied self.old ((line_piece line.entry) ∷ lines_ahead behind.entry) → OnOk result (Tied self.new (lines_ahead behind.entry)) }
         ensures frame { S.Sink.frame sink.old sink.new }
+        ensures refused { OnErr result (self.new ≡ self.old) }
     {
         match kind_of(line.part) {
             LineKind::Opening(form, revised) => self.open(
@@ -201,26 +246,19 @@ impl<'a> Machine<'a> {
             },
             LineKind::End => match self.stage {
                 Stage::Outside | Stage::Skipping => Ok(()),
-                Stage::Header(_) | Stage::Body(_) => self.end(),
+                Stage::Header(_) | Stage::Body(_) => {
+                    self.end();
+                    Ok(())
+                }
             },
             LineKind::Dotted => match self.stage {
                 Stage::Outside | Stage::Skipping => Ok(()),
-                Stage::Header(held) => {
-                    if held.is_table() {
-                        return Err(MessageRefusal::Unfinished.at(line.place));
-                    }
-                    self.end()
-                }
+                Stage::Header(held) => self.end_header(held, line),
                 Stage::Body(_) => Err(MessageRefusal::Unfinished.at(line.place)),
             },
             LineKind::Other => match self.stage {
                 Stage::Outside | Stage::Skipping => Ok(()),
-                Stage::Header(held) => {
-                    if held.is_table() {
-                        return self.read_body(held, line, setting, sink);
-                    }
-                    self.end()
-                }
+                Stage::Header(held) => self.leave_header(held, line, setting, sink),
                 Stage::Body(held) => self.read_body(held, line, setting, sink),
             },
         }
