@@ -1,5 +1,5 @@
 -- What a reader of items has yet to give, and one step of it.
-use Rattle.std.specs.Prelude.{◌≡◌, List, [], ◌∷◌, Some, None, Option, MatchOption}
+use Rattle.std.specs.Prelude.{◌≡◌, ◌+◌, ◌^◌, ◌<◌, List, [], ◌∷◌, length, Some, None, Option, MatchOption, IfSome}
 use Rattle.items.specs.declared.cut.Item.{Item}
 use Rattle.items.specs.declared.cut.Items.{Items}
 use Rattle.items.specs.Items.{cut_items}
@@ -19,3 +19,11 @@ items_ahead r = items_of r.rest
 
 abbrev pub ItemStep : Items → Option Item → Items → Type 0
 ItemStep r o s = MatchOption o ((items_ahead r ≡ []) × (items_ahead s ≡ [])) (λ x. items_ahead r ≡ item_piece x ∷ items_ahead s)
+
+-- its last byte has a place
+abbrev pub Fits : Item → Type 0
+Fits x = x.place + length x.part.now < 2 ^ 64
+
+-- one step that gives only items whose last byte has a place
+abbrev pub FittingStep : Items → Option Item → Items → Type 0
+FittingStep r o s = ItemStep r o s × IfSome o Fits

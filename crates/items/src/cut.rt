@@ -1,5 +1,6 @@
 // An item, and the reader that gives the items of a line.
 ghost use Rattle.std.specs.Prelude.{◌+◌, ◌^◌, ◌<◌, length};
+ghost use Rattle.std.specs.Option.{ForSome};
 
 mod read;
 
@@ -10,11 +11,11 @@ pub use read::fit;
 pub struct Item<'a> {
     pub part: &'a [u8],
     pub place: usize,
-    ghost fits: { place + length part.now < 2 ^ 64 },
 }
 
 // What is left of a line, not yet cut into items; nothing where no item is left.
 #[derive(Clone, Copy)]
 pub struct Items<'a> {
     rest: Option<Item<'a>>,
+    ghost fits: { ForSome rest (λ x. x.place + length x.part.now < 2 ^ 64) },
 }

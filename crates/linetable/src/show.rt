@@ -1,5 +1,5 @@
 // The lines of a text as they are printed, with their words and items.
-ghost use Rattle.std.specs.Prelude.{◌≤◌, length};
+ghost use Rattle.std.specs.Prelude.{◌+◌, ◌^◌, ◌<◌, ◌≤◌, length};
 
 use items::{Items, next_word, split_item};
 use printing::{Heading, Placed, Shown};
@@ -46,7 +46,7 @@ fn show_codes(rt: &HostRuntime, items: Items) -> io::Result<()> {
 
 // The items behind the first bytes of a message line.
 fn show_message(rt: &HostRuntime, line: Line, start: usize) -> io::Result<()>
-    requires { start ≤ length line.part.now }
+    requires { (start ≤ length line.part.now) × (line.place + length line.part.now < 2 ^ 64) }
 {
     let (_, behind) = line.part.split_at(start);
     let items = Items::of_line(behind, line.place + start);
@@ -55,7 +55,9 @@ fn show_message(rt: &HostRuntime, line: Line, start: usize) -> io::Result<()>
 }
 
 // The items behind the station of a body line.
-fn show_body(rt: &HostRuntime, line: Line) -> io::Result<()> {
+fn show_body(rt: &HostRuntime, line: Line) -> io::Result<()>
+    requires { line.place + length line.part.now < 2 ^ 64 }
+{
     match next_word(line.part) {
         Some(station) => {
             let start = station.lead + station.part.len();
@@ -65,7 +67,9 @@ fn show_body(rt: &HostRuntime, line: Line) -> io::Result<()> {
     }
 }
 
-fn show_line(rt: &HostRuntime, line: Line) -> io::Result<()> {
+fn show_line(rt: &HostRuntime, line: Line) -> io::Result<()>
+    requires { line.place + length line.part.now < 2 ^ 64 }
+{
     let heading = Heading { line };
     println!(rt; "{heading}")?;
     show_words(rt, line.part)?;

@@ -1,7 +1,7 @@
 // Readers of the items of a line, each item the header's or the line's own.
-ghost use Rattle.std.specs.Prelude.{◌≡◌, List, [], ◌∷◌, MatchOption};
-ghost use Rattle.items.specs.Steps.{item_piece, items_ahead};
-ghost use Rattle.merging.specs.Merging.{Sided, sided, parts_ahead};
+ghost use Rattle.std.specs.Prelude.{◌≡◌, List, [], ◌∷◌, MatchOption, IfSome};
+ghost use Rattle.items.specs.Steps.{Fits, item_piece, items_ahead};
+ghost use Rattle.merging.specs.Merging.{PartFits, Sided, sided, parts_ahead};
 ghost use Rattle.logging.specs.Own.{own_item, own_items};
 
 use items::{Item, Items};
@@ -14,7 +14,8 @@ pub trait Parts<'a>: Drop {
     ghost ahead: { Self → List Sided };
 
     fn next_part(&mut self) -> Option<Part<'a>>
-        ensures { MatchOption result ((ahead self.old ≡ []) × (ahead self.new ≡ [])) (λ x. ahead self.old ≡ sided x ∷ ahead self.new) };
+        ensures step { MatchOption result ((ahead self.old ≡ []) × (ahead self.new ≡ [])) (λ x. ahead self.old ≡ sided x ∷ ahead self.new) }
+        ensures fits { IfSome result PartFits };
 }
 
 // The items of an opening line or a continuation.
@@ -26,7 +27,8 @@ pub struct OwnParts<'a> {
 
 // An item of a table's header is the header's, of another message the line's own.
 fn own_part<'a>(form: Form, item: Item<'a>) -> Part<'a>
-    ensures { sided result ≡ own_item form (item_piece item.entry) }
+    ensures value { sided result ≡ own_item form (item_piece item.entry) }
+    ensures fits { Fits item.entry → PartFits result }
 {
     match form {
         Form::B => Part::Header(item),

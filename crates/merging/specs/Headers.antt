@@ -1,9 +1,9 @@
 -- The items of a .B header, which stands on an opening line and its continuations.
-use Rattle.std.specs.Prelude.{◌≡◌, ◌+◌, List, [], ◌∷◌, ◌++◌, take, drop, Some, None, Option, MatchOption}
+use Rattle.std.specs.Prelude.{◌≡◌, ◌+◌, List, [], ◌∷◌, ◌++◌, take, drop, Some, None, Option, MatchOption, IfSome}
 use Rattle.items.specs.declared.cut.Item.{Item}
 use Rattle.merging.specs.declared.heading.Header.{Header}
 use Rattle.items.specs.Items.{message_items}
-use Rattle.items.specs.Steps.{item_piece, items_ahead}
+use Rattle.items.specs.Steps.{Fits, item_piece, items_ahead}
 use Rattle.reader.specs.declared.kind.Continuation.{Continuation}
 use Rattle.reader.specs.Kinds.{continuation_of}
 use Rattle.reader.specs.Lines.{Piece, lines_ahead}
@@ -27,3 +27,7 @@ header_ahead h = header_items (items_ahead h.items) (take h.left (lines_ahead h.
 
 abbrev pub HeaderStep : Header → Option Item → Header → Type 0
 HeaderStep r o s = MatchOption o ((header_ahead r ≡ []) × (header_ahead s ≡ [])) (λ x. header_ahead r ≡ item_piece x ∷ header_ahead s)
+
+-- one step that gives only items whose last byte has a place
+abbrev pub FittingStep : Header → Option Item → Header → Type 0
+FittingStep r o s = HeaderStep r o s × IfSome o Fits

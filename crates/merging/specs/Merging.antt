@@ -1,12 +1,12 @@
 -- The items of a .B body line, merged with those of its header.
-use Rattle.std.specs.Prelude.{◌≡◌, ℕ, ◌<◌, Bool, false, cond, List, [], ◌∷◌, ◌++◌, map, length, Option, MatchOption, ◌==◌}
+use Rattle.std.specs.Prelude.{◌≡◌, ℕ, ◌<◌, Bool, false, cond, List, [], ◌∷◌, ◌++◌, map, length, Option, MatchOption, IfSome, ◌==◌}
 use Rattle.items.specs.declared.cut.Item.{Item}
 use Rattle.merging.specs.declared.heading.Header.{Header as Heading}
 use Rattle.merging.specs.declared.merge.Merged.{Merged}
 use Rattle.merging.specs.declared.merge.Part.{Part}
 use Rattle.merging.specs.declared.merge.Part.TheVariants.{Header, Line}
 use Rattle.merging.specs.Headers.{header_ahead}
-use Rattle.items.specs.Steps.{item_piece, items_ahead}
+use Rattle.items.specs.Steps.{Fits, item_piece, items_ahead}
 use Rattle.reader.specs.Lines.{Piece}
 
 -- an item, and whether it is the header's or the line's own
@@ -44,8 +44,17 @@ abbrev pub sided : Part → Sided
 sided (Header x) = of_header (item_piece x)
 sided (Line x) = of_line (item_piece x)
 
+-- the last byte of the part has a place
+abbrev pub PartFits : Part → Type 0
+PartFits (Header x) = Fits x
+PartFits (Line x) = Fits x
+
 abbrev pub PartStep : Merged → Option Part → Merged → Type 0
 PartStep r o s = MatchOption o ((parts_ahead r ≡ []) × (parts_ahead s ≡ [])) (λ x. parts_ahead r ≡ sided x ∷ parts_ahead s)
+
+-- one step that gives only parts whose last byte has a place
+abbrev pub FittingPart : Merged → Option Part → Merged → Type 0
+FittingPart r o s = PartStep r o s × IfSome o PartFits
 
 -- the next item of a header that is not empty
 abbrev pub FilledStep : Heading → Option Item → Heading → Type 0

@@ -1,9 +1,9 @@
 // The items of a .B body line, merged with those of its header.
-ghost use Rattle.std.specs.Prelude.{◌≡◌, false};
+ghost use Rattle.std.specs.Prelude.{◌≡◌, false, IfSome};
 ghost use Rattle.merging.specs.Headers.{header_ahead};
-ghost use Rattle.merging.specs.Merging.{FilledStep, PartStep, filled, from_header, is_d, parts_ahead, sided};
-ghost use Rattle.items.specs.Steps.{items_ahead};
-ghost use Rattle.std.specs.Iterator.{YieldsFirstBy, item_count};
+ghost use Rattle.merging.specs.Merging.{FilledStep, FittingPart, PartFits, PartStep, filled, from_header, is_d, parts_ahead};
+ghost use Rattle.items.specs.Steps.{Fits, items_ahead};
+ghost use Rattle.std.specs.Iterator.{item_count};
 
 use crate::heading::Header;
 use items::{Item, Items};
@@ -33,7 +33,8 @@ pub fn is_d_item(item: &[u8]) -> bool
 impl<'a> Header<'a> {
     // The next item that is not empty.
     pub fn next_filled(&mut self) -> Option<Item<'a>>
-        ensures { FilledStep self.old result self.new }
+        ensures step { FilledStep self.old result self.new }
+        ensures fits { IfSome result Fits }
     {
         self.find(|item| !item.part.is_empty())
     }
@@ -52,7 +53,8 @@ impl<'a> Merged<'a> {
 
     // The next item, as a part of the header or of the line.
     pub fn next_part(&mut self) -> Option<Part<'a>>
-        ensures { PartStep self.old result self.new }
+        ensures step { PartStep self.old result self.new }
+        ensures fits { IfSome result PartFits }
     {
         if !self.waiting {
             if let Some(item) = self.header.next_filled() {
@@ -69,7 +71,7 @@ impl<'a> Merged<'a> {
 impl<'a> Iterator for Merged<'a> {
     type Item = Part<'a>;
 
-    ghost next_gives = { YieldsFirstBy sided parts_ahead };
+    ghost next_gives = { FittingPart };
 
     ghost remaining = { item_count parts_ahead };
 

@@ -1,5 +1,5 @@
 // The fields of a line, one word after another.
-ghost use Rattle.std.specs.Prelude.{◌≡◌, ◌≤◌, length, Option, IfOk};
+ghost use Rattle.std.specs.Prelude.{◌≡◌, ◌+◌, ◌^◌, ◌<◌, ◌≤◌, length, Option, IfOk};
 ghost use Rattle.calendar.specs.Messages.{message_date};
 ghost use Rattle.messages.specs.Ways.{map_ok};
 ghost use Rattle.reader.specs.Lines.{line_piece};
@@ -23,12 +23,13 @@ struct Found<'a> {
     start: usize,
 }
 
-// A line, and how far its fields have been read.
+// A line that ends below place 2^64, and how far its fields have been read.
 #[derive(Clone, Copy)]
 pub struct Fields<'a> {
     pub line: Line<'a>,
     pub from: usize,
     ghost within: { from ≤ length line.part.now },
+    ghost fits: { line.place + length line.part.now < 2 ^ 64 },
 }
 
 impl<'a> Fields<'a> {

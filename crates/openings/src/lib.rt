@@ -1,7 +1,7 @@
 // The fields of an opening line, and the station of a body line.
 #![tactic(auto)]
 
-ghost use Rattle.std.specs.Prelude.{◌≡◌, ◌≤◌, length, IfOk};
+ghost use Rattle.std.specs.Prelude.{◌≡◌, ◌+◌, ◌^◌, ◌<◌, ◌≤◌, length, IfOk, MatchResult};
 ghost use Rattle.messages.specs.Ways.{map_ok};
 ghost use Rattle.reader.specs.Lines.{line_piece};
 ghost use Rattle.record.specs.Entries.{name as name_of};
@@ -18,7 +18,7 @@ use fields::Fields;
 use messages::message::Message;
 use reader::{Form, Line, letters_len};
 use record::station::Station;
-use refusals::Fault;
+use refusals::{Fault, MessageRefusal};
 use terms::terms::Terms;
 
 // A message as its opening line leaves it; `start` is where in the line its items begin.
@@ -29,6 +29,16 @@ pub struct Opening {
     pub start: usize,
 }
 
+// A line that would end beyond the last place of a text is refused.
+fn placed(line: Line<'_>) -> Result<(), Fault>
+    ensures { MatchResult result (λ _. line.entry.place + length line.entry.part.now < 2 ^ 64) (λ _. 2 ^ 64 ≤ line.entry.place + length line.entry.part.now) }
+{
+    if line.part.len() > usize::MAX - line.place {
+        return Err(MessageRefusal::Unreadable.at(line.place));
+    }
+    Ok(())
+}
+
 // The opening of a message.
 pub fn read_opening(
     line: Line<'_>,
@@ -36,9 +46,10 @@ pub fn read_opening(
     revised: bool,
     today: Date,
 ) -> Result<Opening, Fault>
-    ensures value { map_ok opened_as result ≡ opened today form revised (line_piece line.entry) }
+    ensures value { line.entry.place + length line.entry.part.now < 2 ^ 64 → map_ok opened_as result ≡ opened today form revised (line_piece line.entry) }
     ensures valid { IfOk result (λ o. (o.start ≤ length line.entry.part.now) × (o.message.form ≡ form)) }
 {
+    placed(line)?;
     let mut fields = Fields {
         line,
         from: letters_len(line.part),
@@ -62,9 +73,10 @@ pub fn read_opening(
 
 // The station that a body line begins with, and the offset behind it.
 pub fn body_station(line: Line<'_>) -> Result<(Station, usize), Fault>
-    ensures value { map_ok (λ x. (name_of x.0, x.1)) result ≡ field why.Station station_of (line_piece line.entry) 0 }
+    ensures value { line.entry.place + length line.entry.part.now < 2 ^ 64 → map_ok (λ x. (name_of x.0, x.1)) result ≡ field why.Station station_of (line_piece line.entry) 0 }
     ensures valid { IfOk result (λ x. x.1 ≤ length line.entry.part.now) }
 {
+    placed(line)?;
     let mut fields = Fields { line, from: 0 };
     let station = fields.station()?;
     Ok((station, fields.from))

@@ -1,5 +1,5 @@
 // A line, and the reader that gives the lines of a text, each lent from it.
-ghost use Rattle.std.specs.Prelude.{◌+◌, ◌^◌, ◌<◌, ◌≤◌, length};
+ghost use Rattle.std.specs.Prelude.{◌≤◌, length};
 
 mod read;
 
@@ -10,7 +10,6 @@ pub use read::{lines_are_cut, lines_join};
 pub struct Line<'a> {
     pub part: &'a [u8],
     pub place: usize,
-    ghost fits: { place + length part.now < 2 ^ 64 },
 }
 
 // A text, read as far as `pos`. The whole text stays beside it: each line is promised to stand in the text at its place.

@@ -1,5 +1,5 @@
 // What each kind of line does in each stage.
-ghost use Rattle.std.specs.Prelude.{◌≡◌, ◌+◌, ◌<◌, true, false, List, ◌∷◌, drop, MatchOption, MatchResult, OnErr, OnOk};
+ghost use Rattle.std.specs.Prelude.{◌≡◌, ◌+◌, ◌^◌, ◌<◌, true, false, List, ◌∷◌, length, drop, MatchOption, MatchResult, OnErr, OnOk};
 ghost use Rattle.events.specs.Events.{fault as fault_at};
 ghost use Rattle.events.specs.Passing.{Comes};
 ghost use Rattle.daylight.specs.Settings.{told};
@@ -85,6 +85,7 @@ impl<'a> Machine<'a> {
         setting: &Setting<'_, R>,
         sink: &mut S,
     ) -> Result<(), Fault>
+        requires { line.place + length line.part.now < 2 ^ 64 }
         ensures cases { Comes result (S.Sink.holds sink.old) (S.Sink.holds sink.new) (came (told R.daylight setting.now) (begins (told R.daylight setting.now) form revised (line_piece line.entry))) (λ _ k. k (stage_of self.new)) }
         ensures tied { OnOk result (Tied self.new (lines_ahead behind.entry)) }
         ensures frame { S.Sink.frame sink.old sink.new }
@@ -125,6 +126,7 @@ impl<'a> Machine<'a> {
         setting: &Setting<'_, R>,
         sink: &mut S,
     ) -> Result<(), Fault>
+        requires { line.place + length line.part.now < 2 ^ 64 }
         ensures cases { (rest : List Piece) → drop held.number (lines_ahead self.old.lines) ≡ (line_piece line.entry) ∷ rest → Comes result (S.Sink.holds sink.old) (S.Sink.holds sink.new) (came (told R.daylight setting.now) (continues (common held.message) (standing held.terms) (reached held.progress) held.number (header_of self.old held.number) form revised (line_piece line.entry))) (λ _ k. k (stage_of self.new)) }
         ensures tied { (rest : List Piece) → drop held.number (lines_ahead self.old.lines) ≡ (line_piece line.entry) ∷ rest → OnOk result (Tied self.new rest) }
         ensures frame { S.Sink.frame sink.old sink.new }
@@ -155,6 +157,7 @@ impl<'a> Machine<'a> {
         setting: &Setting<'_, R>,
         sink: &mut S,
     ) -> Result<(), Fault>
+        requires { line.place + length line.part.now < 2 ^ 64 }
         ensures cases { Comes result (S.Sink.holds sink.old) (S.Sink.holds sink.new) (came (told R.daylight setting.now) (body_line (common held.message) (standing held.terms) (header_of self.old held.number) (line_piece line.entry))) (λ _ k. k (stage_of self.new)) }
         ensures tied { OnOk result ((rest : List Piece) → Tied self.new rest) }
         ensures frame { S.Sink.frame sink.old sink.new }
@@ -209,6 +212,7 @@ impl<'a> Machine<'a> {
         setting: &Setting<'_, R>,
         sink: &mut S,
     ) -> Result<(), Fault>
+        requires { line.place + length line.part.now < 2 ^ 64 }
         ensures cases { Comes result (S.Sink.holds sink.old) (S.Sink.holds sink.new) (came (told R.daylight setting.now) (behind (common held.message) (standing held.terms) (header_of self.old held.number) (line_piece line.entry) kind.Other)) (λ _ k. k (stage_of self.new)) }
         ensures tied { OnOk result ((rest : List Piece) → Tied self.new rest) }
         ensures frame { S.Sink.frame sink.old sink.new }
@@ -221,14 +225,15 @@ impl<'a> Machine<'a> {
         Ok(())
     }
 
-    // What a line does, by its kind and the stage: a row for each pair. `behind` are the lines that follow it.
-    pub fn take_line<S: Sink, R: Rule>(
+    // What a line does, by its kind and the stage: a row for each pair.
+    fn step<S: Sink, R: Rule>(
         &mut self,
         line: Line<'a>,
         behind: Lines<'a>,
         setting: &Setting<'_, R>,
         sink: &mut S,
     ) -> Result<(), Fault>
+        requires { line.place + length line.part.now < 2 ^ 64 }
         ensures cases { Tied self.old ((line_piece line.entry) ∷ lines_ahead behind.entry) → Comes result (S.Sink.holds sink.old) (S.Sink.holds sink.new) (came (told R.daylight setting.now) (next (told R.daylight setting.now) (stage_of self.old) (line_piece line.entry))) (λ _ k. k (stage_of self.new)) }
         ensures tied { Tied self.old ((line_piece line.entry) ∷ lines_ahead behind.entry) → OnOk result (Tied self.new (lines_ahead behind.entry)) }
         ensures frame { S.Sink.frame sink.old sink.new }
@@ -262,6 +267,25 @@ impl<'a> Machine<'a> {
                 Stage::Body(held) => self.read_body(held, line, setting, sink),
             },
         }
+    }
+
+    // Reads a line; `behind` are the lines that follow it. One that would end beyond the last place of a text is refused.
+    pub fn take_line<S: Sink, R: Rule>(
+        &mut self,
+        line: Line<'a>,
+        behind: Lines<'a>,
+        setting: &Setting<'_, R>,
+        sink: &mut S,
+    ) -> Result<(), Fault>
+        ensures cases { line.entry.place + length line.entry.part.now < 2 ^ 64 → Tied self.old ((line_piece line.entry) ∷ lines_ahead behind.entry) → Comes result (S.Sink.holds sink.old) (S.Sink.holds sink.new) (came (told R.daylight setting.now) (next (told R.daylight setting.now) (stage_of self.old) (line_piece line.entry))) (λ _ k. k (stage_of self.new)) }
+        ensures tied { Tied self.old ((line_piece line.entry) ∷ lines_ahead behind.entry) → OnOk result (Tied self.new (lines_ahead behind.entry)) }
+        ensures frame { S.Sink.frame sink.old sink.new }
+        ensures refused { OnErr result (self.new ≡ self.old) }
+    {
+        if line.part.len() > usize::MAX - line.place {
+            return Err(MessageRefusal::Unreadable.at(line.place));
+        }
+        self.step(line, behind, setting, sink)
     }
 
     // Of a message that was refused nothing more is read.

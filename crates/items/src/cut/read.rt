@@ -1,8 +1,8 @@
 // How the items of a line are read.
-ghost use Rattle.std.specs.Prelude.{◌≡◌, ◌+◌, ◌^◌, ◌<◌, ◌≤◌, [], length, MatchOption};
+ghost use Rattle.std.specs.Prelude.{◌≡◌, ◌+◌, ◌^◌, ◌<◌, ◌≤◌, [], length, IfSome, MatchOption};
 ghost use Rattle.items.specs.Items.{body_items, fitted, message_items};
-ghost use Rattle.items.specs.Steps.{ItemStep, item_piece, items_ahead};
-ghost use Rattle.std.specs.Iterator.{YieldsFirstBy, item_count};
+ghost use Rattle.items.specs.Steps.{Fits, FittingStep, ItemStep, items_ahead};
+ghost use Rattle.std.specs.Iterator.{item_count};
 
 use super::{Item, Items};
 use crate::mark::{Run, body_len, run_len, trim};
@@ -67,7 +67,8 @@ impl<'a> Items<'a> {
     }
 
     pub fn next_item(&mut self) -> Option<Item<'a>>
-        ensures { ItemStep self.old result self.new }
+        ensures step { ItemStep self.old result self.new }
+        ensures fits { IfSome result Fits }
     {
         let line = self.rest?;
         let start = line.place;
@@ -91,7 +92,7 @@ impl<'a> Items<'a> {
 impl<'a> Iterator for Items<'a> {
     type Item = Item<'a>;
 
-    ghost next_gives = { YieldsFirstBy item_piece items_ahead };
+    ghost next_gives = { FittingStep };
 
     ghost remaining = { item_count items_ahead };
 

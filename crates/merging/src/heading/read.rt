@@ -1,8 +1,8 @@
 // How the items of a header are read.
-ghost use Rattle.std.specs.Prelude.{◌≡◌, take};
-ghost use Rattle.merging.specs.Headers.{HeaderStep, continued_items, header_ahead, header_items};
-ghost use Rattle.items.specs.Steps.{item_piece, items_ahead};
-ghost use Rattle.std.specs.Iterator.{YieldsFirstBy, item_count};
+ghost use Rattle.std.specs.Prelude.{◌≡◌, ◌+◌, ◌^◌, ◌<◌, length, take, IfSome};
+ghost use Rattle.merging.specs.Headers.{FittingStep, HeaderStep, continued_items, header_ahead, header_items};
+ghost use Rattle.items.specs.Steps.{Fits, items_ahead};
+ghost use Rattle.std.specs.Iterator.{item_count};
 ghost use Rattle.reader.specs.Lines.{line_piece, lines_ahead};
 
 use super::Header;
@@ -11,12 +11,12 @@ use reader::{Line, Lines, continuation_of};
 
 // The items behind the number of a continuation. A line of another kind has none.
 pub fn continued_items<'a>(line: Line<'a>) -> Items<'a>
-    ensures { items_ahead result ≡ continued_items (line_piece line.entry) }
+    ensures { line.entry.place + length line.entry.part.now < 2 ^ 64 → items_ahead result ≡ continued_items (line_piece line.entry) }
 {
     match continuation_of(line.part) {
         Some(number) => {
             let (_, behind) = line.part.split_at(number.start);
-            Items::of_line(behind, line.place + number.start)
+            Items::of_line(behind, line.place.saturating_add(number.start))
         }
         None => Items::none(),
     }
@@ -35,7 +35,8 @@ impl<'a> Header<'a> {
     }
 
     pub fn next_item(&mut self) -> Option<Item<'a>>
-        ensures { HeaderStep self.old result self.new }
+        ensures step { HeaderStep self.old result self.new }
+        ensures fits { IfSome result Fits }
     {
         loop {
             if let Some(item) = self.items.next_item() {
@@ -51,7 +52,7 @@ impl<'a> Header<'a> {
 impl<'a> Iterator for Header<'a> {
     type Item = Item<'a>;
 
-    ghost next_gives = { YieldsFirstBy item_piece header_ahead };
+    ghost next_gives = { FittingStep };
 
     ghost remaining = { item_count header_ahead };
 

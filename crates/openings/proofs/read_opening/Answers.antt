@@ -15,15 +15,15 @@ use Rattle.openings.proofs.read_opening.Goals as goal
 
 pub returns-in_err-station-clause-value : goal.returns-in_err-station-clause-value
 returns-in_err-station-clause-value c =
-    let p = err_from_is_err_and c.from_residual.result c.from_residual.ensures.1 in
+    let p = err_from_is_err_and c.from_residual-in_err-station.result c.from_residual-in_err-station.ensures.1 in
     let l = line_piece c.args.line in
-    ap (map_ok opened_as) (p.1 ∙ ap Err p.2) ∙ no_station c.args.today c.args.form c.args.revised l _ (c.in_err-station.ensures.value ∙ ap (field why.Station station_of l) c.letters_len.ensures.value)
+    λ fits. ap (map_ok opened_as) (p.1 ∙ ap Err p.2) ∙ no_station c.args.today c.args.form c.args.revised l _ (c.in_err-station.ensures.value ∙ ap (field why.Station station_of l) c.letters_len.ensures.value)
 
 pub returns-in_err-date-clause-value : goal.returns-in_err-date-clause-value
 returns-in_err-date-clause-value c =
     let p = err_from_is_err_and c.from_residual-in_err-date.result c.from_residual-in_err-date.ensures.1 in
     let l = line_piece c.args.line in
-    ap (map_ok opened_as) (p.1 ∙ ap Err p.2) ∙ no_date c.args.today c.args.form c.args.revised l _ (name c.in_ok-station.station, c.station.new.self.from)
+    λ fits. ap (map_ok opened_as) (p.1 ∙ ap Err p.2) ∙ no_date c.args.today c.args.form c.args.revised l _ (name c.in_ok-station.station, c.station.new.self.from)
     (c.in_ok-station.ensures.value ∙ ap (field why.Station station_of l) c.letters_len.ensures.value)
     (c.in_err-date.ensures.value ∙ ap (λ k. field why.Date (λ w. message_date w c.args.today) (line_piece k) c.station.new.self.from) c.station.ensures.same)
 
@@ -35,7 +35,7 @@ returns-clause-value c =
       terms = t;
       start = c.zone-zone.new.self.from;
     } in
-    ap (λ t. Ok (under t)) c.opening.ensures ∙ opens c.args.today c.args.form c.args.revised l (name c.in_ok-station.station, c.station.new.self.from) (c.in_ok-date.date, c.date.new.self.from) (c.zone-zone.result, c.zone-zone.new.self.from)
+    λ fits. ap (λ t. Ok (under t)) c.opening.ensures ∙ opens c.args.today c.args.form c.args.revised l (name c.in_ok-station.station, c.station.new.self.from) (c.in_ok-date.date, c.date.new.self.from) (c.zone-zone.result, c.zone-zone.new.self.from)
     (c.in_ok-station.ensures.value ∙ ap (field why.Station station_of l) c.letters_len.ensures.value)
     (c.in_ok-date.ensures.value ∙ ap (λ k. field why.Date (λ w. message_date w c.args.today) (line_piece k) c.station.new.self.from) c.station.ensures.same)
     (c.zone-zone.ensures.value ∙ ap (λ (k : Line). zone_field k.part.now c.date.new.self.from) (c.date.ensures.same ∙ c.station.ensures.same))

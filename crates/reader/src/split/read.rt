@@ -1,8 +1,8 @@
 // How the lines of a text are found.
 ghost use Rattle.std.specs.Prelude.{◌≡◌, ◌+◌, ◌^◌, ◌≤◌, ◌==◌, length, position, MatchOption};
 ghost use Rattle.reader.specs.Cut.{LinesCut, LinesJoin};
-ghost use Rattle.reader.specs.Lines.{LineStep, less_return, line_piece, lines, lines_ahead, rest_of};
-ghost use Rattle.std.specs.Iterator.{YieldsFirstBy, item_count};
+ghost use Rattle.reader.specs.Lines.{LineStep, less_return, lines, lines_ahead, rest_of};
+ghost use Rattle.std.specs.Iterator.{item_count};
 
 use super::{Line, Lines};
 
@@ -79,7 +79,7 @@ impl<'a> Lines<'a> {
 impl<'a> Iterator for Lines<'a> {
     type Item = Line<'a>;
 
-    ghost next_gives = { YieldsFirstBy line_piece lines_ahead };
+    ghost next_gives = { LineStep };
 
     ghost remaining = { item_count lines_ahead };
 

@@ -23,7 +23,7 @@ loop-line-preserved g c =
     let tie = subst (λ (x : List Piece). Tied c.loop-line.machine x) gave.next c.loop-line.invariant.1 in
     let here = turn_refused (ends_here σ l) (records_here σ l) (turn_renamed c.loop-line.invariant.0 (ap (to_come S e σ) gave.next ∙ to_come-line S e σ l ls)) c.close_before.ensures.list c.close_before.ensures.count in
     let on = c.in_default-take_line.not-Err in (
-      turn_passed (came S (next S σ l)) (behind_line S e ls) (stretches S e (cut ls).1) here (came_on c.take_line.result {rest = λ k. k (stage_of c.take_line.new.self)} on (c.take_line.ensures.cases tie)),
+      turn_passed (came S (next S σ l)) (behind_line S e ls) (stretches S e (cut ls).1) here (came_on c.take_line.result {rest = λ k. k (stage_of c.take_line.new.self)} on (c.take_line.ensures.cases gave.fits tie)),
       holds_on c.take_line.result on (c.take_line.ensures.tied tie),
       g.S.Sink.ties.goes _ _ _ c.loop-line.invariant.2 c.take_line.ensures.frame,
       grown_ties.goes _ _ _ c.loop-line.invariant.3 c.close_before.ensures.frame,
@@ -40,7 +40,7 @@ loop-line-preserved-in-Err g c =
     let gave = c.in-Some.ensures.1 in
     let tie = subst (λ (x : List Piece). Tied c.loop-line.machine x) gave.next c.loop-line.invariant.1 in
     let here = turn_refused (ends_here σ l) (records_here σ l) (turn_renamed c.loop-line.invariant.0 (ap (to_come S e σ) gave.next ∙ to_come-line S e σ l ls)) c.close_before.ensures.list c.close_before.ensures.count in
-    let stopped = turn_stopped (came S (next S σ l)) (behind_line S e ls) (stretches S e (cut ls).1) c.in-Err.fault here (c.in-Err.ensures.cases tie) c.in_ok-note.ensures.cases c.note.ensures.list c.note.ensures.count in (
+    let stopped = turn_stopped (came S (next S σ l)) (behind_line S e ls) (stretches S e (cut ls).1) c.in-Err.fault here (c.in-Err.ensures.cases gave.fits tie) c.in_ok-note.ensures.cases c.note.ensures.list c.note.ensures.count in (
       turn_renamed stopped (to_come_skipping S e ls ∙ ap (λ τ. to_come S e τ ls) (sym c.skip.ensures.stage)),
       c.skip.ensures.tied ls,
       g.S.Sink.ties.goes _ _ _ c.loop-line.invariant.2 c.take_line.ensures.frame,
@@ -60,7 +60,7 @@ returns-in_err-note-clause-done g c =
     let tie = subst (λ (x : List Piece). Tied c.loop-line.machine x) gave.next c.loop-line.invariant.1 in
     let here = turn_refused (ends_here σ l) (records_here σ l) (turn_renamed c.loop-line.invariant.0 (ap (to_come S e σ) gave.next ∙ to_come-line S e σ l ls)) c.close_before.ensures.list c.close_before.ensures.count in
     let up = c.in_err-note.ensures.cases in
-    let full = turn_full (came S (next S σ l)) (behind_line S e ls) (stretches S e (cut ls).1) c.in-Err.fault here (c.in-Err.ensures.cases tie) up.1 c.note.ensures.list c.note.ensures.count in
+    let full = turn_full (came S (next S σ l)) (behind_line S e ls) (stretches S e (cut ls).1) c.in-Err.fault here (c.in-Err.ensures.cases gave.fits tie) up.1 c.note.ensures.list c.note.ensures.count in
     let p = err_from_is_err_and c.from_residual-in_err-note.result c.from_residual-in_err-note.ensures.1 in
     let room = (g.S.Sink.holds c.args.sink.now).room in
     subst (λ r. Read (g.S.Sink.holds c.args.sink.now) (g.S.Sink.holds c.take_line.new.sink) (of_slots c.args.refused.now.list.now) (of_slots c.note.new.self.list.now) (decoded S text) (answer_of S room text) r c.note.new.self.found) (sym (p.1 ∙ ap Err (p.2 ∙ up.0))) (read_up_to S text c.in_ok-dated.ensures c.in-Err.fault full.0 up.1 full.1 full.2)

@@ -8,8 +8,8 @@ use Rattle.items.specs.Marks.{core}
 use Rattle.items.specs.Steps.{items_of}
 use Rattle.std.proofs.lemmas.List.{drop-drop, take_rest}
 
-pub returns : goal.returns
-returns c =
+pub returns-clause-step : goal.returns-clause-step
+returns-clause-step c =
     let xs = c.in_ok-line.line.part.now in
     let p : ℕ = c.in_ok-line.line.place in
     let n : ℕ = c.run_len-len.result in

@@ -34,7 +34,7 @@ returns-in_err-progress-clause-cases g c =
     let items = items_ahead c.continued_items.result in
     let hs = header_of c.args.self.now o.number in
     λ rest e. comes_err _ _ _ _ p.1 p.2 (line_stopped S (common o.message) (reached o.progress) (own_items o.message.form items) (λ q. header (common o.message) (standing o.terms) q (o.number + 1) (hs ++ items))
-    (continues_reads (common o.message) (standing o.terms) (reached o.progress) o.number hs c.args.form c.args.revised (line_piece c.args.line) items c.in_ok-checked.ensures c.in-Some.ensures.0 c.continued_items.ensures)
+    (continues_reads (common o.message) (standing o.terms) (reached o.progress) o.number hs c.args.form c.args.revised (line_piece c.args.line) items c.in_ok-checked.ensures c.in-Some.ensures.0 (c.continued_items.ensures c.requires))
     c.in_err-progress.ensures.cases)
 
 pub returns-clause-cases : goal.returns-clause-cases
@@ -43,7 +43,7 @@ returns-clause-cases g c =
     let o = c.args.held in
     let l = line_piece c.args.line in
     let items = items_ahead c.continued_items.result in
-    let at = c.continued_items.ensures in
+    let at = c.continued_items.ensures c.requires in
     let hs = header_of c.args.self.now o.number in
     let ahead = lines_ahead c.args.self.now.lines in
     let q = reached c.in_ok-progress.progress in

@@ -25,7 +25,7 @@ pub returns-in_err-opening-clause-cases : goal.returns-in_err-opening-clause-cas
 returns-in_err-opening-clause-cases g c =
     let S = told g.R.Rule.daylight c.args.setting.now in
     let p = err_from_is_err_and c.from_residual-in_err-opening.result c.from_residual-in_err-opening.ensures.1 in
-    let is = c.in_err-opening.ensures.value in
+    let is = c.in_err-opening.ensures.value c.requires in
     comes_err _ _ _ _ p.1 p.2 (line_refused S _ (begins_refused S c.args.form c.args.revised (line_piece c.args.line) _ c.in_ok-checked.ensures is) (opened_says c.args.setting.now.today c.args.form c.args.revised (line_piece c.args.line) _ is))
 
 pub returns-in_err-progress-clause-cases : goal.returns-in_err-progress-clause-cases
@@ -35,9 +35,9 @@ returns-in_err-progress-clause-cases g c =
     let o = c.in_ok-opening.opening in
     let l = line_piece c.args.line in
     let items = items_ahead c.of_line-items.result in
-    let at = c.of_line-items.ensures.placed (omega (arith, c.split_at.ensures.back_len, c.args.line.fits)) ∙ ap (message_items (c.args.line.place + o.start)) c.split_at.ensures.back in
+    let at = c.of_line-items.ensures.placed (omega (arith, c.split_at.ensures.back_len, c.requires)) ∙ ap (message_items (c.args.line.place + o.start)) c.split_at.ensures.back in
     comes_err _ _ _ _ p.1 p.2 (line_stopped S (common o.message) (reached c.new.result) (own_items o.message.form items) (λ q. header (common o.message) (standing o.terms) q 0 items)
-    (begins_reads S c.args.form c.args.revised l (opened_as o) items (reached c.new.result) o.message.form c.in_ok-checked.ensures c.in_ok-opening.ensures.value at c.new.ensures c.in_ok-opening.ensures.valid.1)
+    (begins_reads S c.args.form c.args.revised l (opened_as o) items (reached c.new.result) o.message.form c.in_ok-checked.ensures (c.in_ok-opening.ensures.value c.requires) at c.new.ensures c.in_ok-opening.ensures.valid.1)
     c.in_err-progress.ensures.cases)
 
 pub returns-clause-cases : goal.returns-clause-cases
@@ -46,9 +46,9 @@ returns-clause-cases g c =
     let o = c.in_ok-opening.opening in
     let l = line_piece c.args.line in
     let items = items_ahead c.of_line-items.result in
-    let at = c.of_line-items.ensures.placed (omega (arith, c.split_at.ensures.back_len, c.args.line.fits)) ∙ ap (message_items (c.args.line.place + o.start)) c.split_at.ensures.back in
+    let at = c.of_line-items.ensures.placed (omega (arith, c.split_at.ensures.back_len, c.requires)) ∙ ap (message_items (c.args.line.place + o.start)) c.split_at.ensures.back in
     let q = reached c.in_ok-progress.progress in
     line_read S (common o.message) (reached c.new.result) q (own_items o.message.form items) (λ r. header (common o.message) (standing o.terms) r 0 items) _
-    (begins_reads S c.args.form c.args.revised l (opened_as o) items (reached c.new.result) o.message.form c.in_ok-checked.ensures c.in_ok-opening.ensures.value at c.new.ensures c.in_ok-opening.ensures.valid.1)
+    (begins_reads S c.args.form c.args.revised l (opened_as o) items (reached c.new.result) o.message.form c.in_ok-checked.ensures (c.in_ok-opening.ensures.value c.requires) at c.new.ensures c.in_ok-opening.ensures.valid.1)
     c.in_ok-progress.ensures.cases
     (ap (header (common o.message) (standing o.terms) q 0) (sym (header_none items (lines_ahead c.args.behind))))

@@ -37,7 +37,7 @@ returns-in_err-station-clause-cases g c =
     let p = err_from_is_err_and c.from_residual-in_err-station.result c.from_residual-in_err-station.ensures.1 in
     let o = c.args.held in
     let l = line_piece c.args.line in
-    let is = c.in_err-station.ensures.value in
+    let is = c.in_err-station.ensures.value c.requires in
     comes_err _ _ _ _ p.1 p.2 (line_refused S _ (body_refused (common o.message) (standing o.terms) (header_of c.args.self.now o.number) l _ c.in_ok-checked.ensures
     (word_not_blank word_parts c.next_word.result c.args.line.part.now c.next_word.ensures.value (c.is_none.ensures ∙ ap not c.if-is_none.false)) is) (field_says why.Station station_of l 0 _ is))
 
@@ -51,11 +51,11 @@ returns-in_err-read_parts-clause-cases g c =
     let n = name c.in_ok-station.station in
     let from = c.in_ok-station.from in
     let hs = header_of c.args.self.now o.number in
-    let own = c.of_body-own.ensures.placed (omega (arith, c.split_at.ensures.back_len, c.args.line.fits)) ∙ ap (body_items (c.args.line.place + from)) c.split_at.ensures.back in
+    let own = c.of_body-own.ensures.placed (omega (arith, c.split_at.ensures.back_len, c.requires)) ∙ ap (body_items (c.args.line.place + from)) c.split_at.ensures.back in
     let at = c.new-parts.ensures ∙ ap (λ x. from_header (filled x) (items_ahead c.of_body-own.result)) c.new-header.ensures ∙ ap (from_header (filled hs)) own in
     comes_err _ _ _ _ p.1 p.2 (line_stopped S (of_station m n) (reached c.new.result) (parts_ahead c.new-parts.result) (λ _. body m (standing o.terms) hs)
     (body_reads m (standing o.terms) hs l (n, from) (reached c.new.result) (parts_ahead c.new-parts.result) c.in_ok-checked.ensures
-    (word_not_blank word_parts c.next_word.result c.args.line.part.now c.next_word.ensures.value (c.is_none.ensures ∙ ap not c.if-is_none.false)) c.in_ok-station.ensures.value c.new.ensures at)
+    (word_not_blank word_parts c.next_word.result c.args.line.part.now c.next_word.ensures.value (c.is_none.ensures ∙ ap not c.if-is_none.false)) (c.in_ok-station.ensures.value c.requires) c.new.ensures at)
     c.in_err-read_parts.ensures.cases)
 
 pub returns-clause-cases : goal.returns-clause-cases
@@ -67,10 +67,10 @@ returns-clause-cases g c =
     let n = name c.in_ok-station.station in
     let from = c.in_ok-station.from in
     let hs = header_of c.args.self.now o.number in
-    let own = c.of_body-own.ensures.placed (omega (arith, c.split_at.ensures.back_len, c.args.line.fits)) ∙ ap (body_items (c.args.line.place + from)) c.split_at.ensures.back in
+    let own = c.of_body-own.ensures.placed (omega (arith, c.split_at.ensures.back_len, c.requires)) ∙ ap (body_items (c.args.line.place + from)) c.split_at.ensures.back in
     let at = c.new-parts.ensures ∙ ap (λ x. from_header (filled x) (items_ahead c.of_body-own.result)) c.new-header.ensures ∙ ap (from_header (filled hs)) own in
     line_read S (of_station m n) (reached c.new.result) _ (parts_ahead c.new-parts.result) (λ _. body m (standing o.terms) hs) _
     (body_reads m (standing o.terms) hs l (n, from) (reached c.new.result) (parts_ahead c.new-parts.result) c.in_ok-checked.ensures
-    (word_not_blank word_parts c.next_word.result c.args.line.part.now c.next_word.ensures.value (c.is_none.ensures ∙ ap not c.if-is_none.false)) c.in_ok-station.ensures.value c.new.ensures at)
+    (word_not_blank word_parts c.next_word.result c.args.line.part.now c.next_word.ensures.value (c.is_none.ensures ∙ ap not c.if-is_none.false)) (c.in_ok-station.ensures.value c.requires) c.new.ensures at)
     c.in_ok-read_parts.ensures.cases
     refl

@@ -7,7 +7,7 @@ use Rattle.terms.specs.Standing.{standing}
 use Rattle.stages.specs.Machines.{header_of, stage_with}
 use Rattle.stages.specs.Stages.{onto, refuses}
 use Rattle.stages.proofs.Moving.{line_onto, line_refused, at_row, left_at_end, left_dotted}
-use Rattle.stages.proofs.stage.Machine.take_line.Goals as goal
+use Rattle.stages.proofs.stage.Machine.step.Goals as goal
 
 pub returns-in-Outside-clause-cases : goal.returns-in-Outside-clause-cases
 returns-in-Outside-clause-cases g c =
