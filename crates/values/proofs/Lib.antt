@@ -6,6 +6,7 @@ pub mod Digit
 pub mod Parts
 pub mod Back
 pub mod Again
+pub mod AnyElement
 pub mod Said
 pub mod Shown
 pub mod Strict

@@ -2,7 +2,7 @@
 use Rattle.std.proofs.Common.{◌≡◌, ℕ, zero, suc, ◌+◌, ◌-◌, ◌*◌, ◌/◌, ◌%◌, ◌<◌, ◌≤◌, ltb, ℤ, pos, negsuc, ◌-ℤ◌, ◌*ℤ◌, neg_ℤ, nat_abs, sym, refl, ap, ◌∙◌, ⊎_elim, mod-lt, mul_assoc, mul_comm, add-mul, mul-zero, mul-suc, arith}
 use native.Mathlib.Nat.{div-add-mod, div-eq_of_lt-le}
 use Rattle.std.proofs.lemmas.Bool.{cond_both, ltb-true, ltb-false, cases_lt}
-use Rattle.values.specs.Conversion.{nearest, rounded, exact, off, Nearest, ConvertsToNearest, ConvertsOnly}
+use Rattle.values.specs.Conversion.{nearest, rounded, exact, off, Nearest, Rounds, RoundsOnly, ConvertsToNearest, ConvertsOnly}
 use Rattle.values.proofs.Signs.{fraction}
 
 within : (den p : ℕ) → 0 < den → (2 * (den * nearest den p) ≤ 2 * p + den) × (2 * p < 2 * (den * nearest den p) + den)
@@ -40,7 +40,7 @@ abs_neg : (r : ℕ) → nat_abs (neg_ℤ (pos r)) ≡ r
 abs_neg zero = refl
 abs_neg (suc r) = refl
 
-is_nearest : (den : ℕ) (p : ℤ) → 0 < den → Nearest den p (rounded den p)
+pub is_nearest : Rounds
 is_nearest den (pos p) some =
     let w = within den p some in
     let e : off den (pos p) (rounded den (pos p)) ≡ (den * nearest den p - p) + (p - den * nearest den p) = apart (den * nearest den p) p in
@@ -64,7 +64,7 @@ wide den r = omega (arith, mul-suc den r)
 strict : (x y den o : ℕ) → 0 < den → o ≡ (x - y) + (y - x) → 2 * o ≤ den → (2 * o ≡ den → y < x) → 2 * y < 2 * x + den
 strict x y den o some e near tie = ⊎_elim (λ h. h) (λ h. absurd (omega (arith, tie (omega arith)))) (cases_lt (2 * y) (2 * x + den))
 
-only_nearest : (den : ℕ) (p r : ℤ) → 0 < den → Nearest den p r → r ≡ rounded den p
+pub only_nearest : RoundsOnly
 only_nearest den (pos p) (pos r) some h =
     let e : off den (pos p) (pos r) ≡ (den * r - p) + (p - den * r) = apart (den * r) p in
     ap pos (sym (only p den r some (omega (arith, h.near)) (strict (den * r) p den _ some e h.near h.tie)))

@@ -27,6 +27,14 @@ pub record Nearest (den : ℕ) (p r : ℤ) : Type 0 where
   pub near : 2 * off den p r ≤ den
   pub tie : 2 * off den p r ≡ den → unsigned_abs p < den * unsigned_abs r
 
+-- a fraction p / den rounded is the nearest whole number to it
+abbrev pub Rounds : Type 0
+Rounds = (den : ℕ) (p : ℤ) → 0 < den → Nearest den p (rounded den p)
+
+-- and it is the only one
+abbrev pub RoundsOnly : Type 0
+RoundsOnly = (den : ℕ) (p r : ℤ) → 0 < den → Nearest den p r → r ≡ rounded den p
+
 -- a converted amount is the whole number of ten-thousandths nearest to the exact amount, at a tie the larger in size
 abbrev pub ConvertsToNearest : Type 0
 ConvertsToNearest = (e : Element) (a : ℤ) → Nearest e.denominator (exact e a) (converted e a)
