@@ -146,7 +146,7 @@ fn read_creation(rest: &[u8], today: Day, zone: Zone) -> Option<Reading> {
         dates::two_digits(time, 2)?
     };
     let local = zones::reading(date, hour, minute, 0)?;
-    zones::in_utc(local, zones::hours_behind(zone, local))
+    zones::in_utc(local, u64::from(zones::hours_behind(zone, local)))
 }
 
 // The number of a variable duration, which Z clears.

@@ -64,5 +64,5 @@ pub fn observed(state: State, zone: Zone, step: u64) -> Option<Reading> {
     } else {
         perhaps_moved(shifted, state.interval, step)?
     };
-    zones::in_utc(reached, hours)
+    zones::in_utc(reached, u64::from(hours))
 }

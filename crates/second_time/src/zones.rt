@@ -76,9 +76,9 @@ pub fn hours_behind(zone: Zone, at: Reading) -> u8
 }
 
 // The time in UTC of a local reading that many hours behind, if it is of 1900 to 2099.
-pub fn in_utc(local: Reading, hours: u8) -> Option<Reading> {
+pub fn in_utc(local: Reading, hours: u64) -> Option<Reading> {
     let unit = Unit::Hour;
-    let count = i64::from(hours);
+    let count = i64::try_from(hours).ok()?;
     moves::moved(local, Move { unit, count }).filter(|utc| days::is_counted(utc.date))
 }
 
