@@ -1,5 +1,5 @@
 -- In English units an element counts only by whether it knows a trace, so what holds of two elements holds of any.
-use Rattle.std.proofs.Common.{◌≡◌, ℕ, Bool, true, false, cond, List, [], ◌∷◌, ◌++◌, ℤ, pos, Some, None, Ok, Err, Option, sym, refl, ap, ◌∙◌}
+use Rattle.std.proofs.Common.{◌≡◌, ℕ, true, false, cond, [], ◌∷◌, ◌++◌, ℤ, Some, None, Ok, Option, sym, refl, ap, ◌∙◌}
 use Rattle.quantity.specs.declared.element.Element.{Element}
 use Rattle.quantity.specs.declared.units.Units.TheVariants.{English}
 use Rattle.quantity.specs.Elements.{row}

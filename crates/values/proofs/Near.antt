@@ -1,8 +1,8 @@
 -- The rounding is to the nearest.
-use Rattle.std.proofs.Common.{◌≡◌, ℕ, zero, suc, ◌+◌, ◌-◌, ◌*◌, ◌/◌, ◌%◌, ◌<◌, ◌≤◌, ltb, ℤ, pos, negsuc, ◌-ℤ◌, ◌*ℤ◌, neg_ℤ, nat_abs, sym, refl, ap, ◌∙◌, ⊎_elim, mod-lt, mul_assoc, mul_comm, add-mul, mul-zero, mul-suc, arith}
+use Rattle.std.proofs.Common.{◌≡◌, ℕ, zero, suc, ◌+◌, ◌-◌, ◌*◌, ◌/◌, ◌%◌, ◌<◌, ◌≤◌, ltb, pos, negsuc, ◌-ℤ◌, ◌*ℤ◌, neg_ℤ, nat_abs, sym, refl, ap, ◌∙◌, ⊎_elim, mod-lt, mul_assoc, mul_comm, add-mul, mul-zero, mul-suc, arith}
 use native.Mathlib.Nat.{div-add-mod, div-eq_of_lt-le}
 use Rattle.std.proofs.lemmas.Bool.{cond_both, ltb-true, ltb-false, cases_lt}
-use Rattle.values.specs.Conversion.{nearest, rounded, exact, off, Nearest, Rounds, RoundsOnly, ConvertsToNearest, ConvertsOnly}
+use Rattle.values.specs.Conversion.{nearest, rounded, exact, off, Rounds, RoundsOnly, ConvertsToNearest, ConvertsOnly}
 use Rattle.values.proofs.Signs.{fraction}
 
 within : (den p : ℕ) → 0 < den → (2 * (den * nearest den p) ≤ 2 * p + den) × (2 * p < 2 * (den * nearest den p) + den)
