@@ -23,10 +23,12 @@ fn amount_text(amount: Amount) -> [u8; 14]
     let size = tenthousandths.unsigned_abs();
     let whole = digits::<8>((size / 10_000) as u32);
     let zeros = zeros_at_front(&whole[..7]);
-    let [a, b, c, d, e, f, g, h] = whole;
     let [i, j, k, l] = digits::<4>((size % 10_000) as u32);
-    let mut text = [b' ', a, b, c, d, e, f, g, h, b'.', i, j, k, l];
-    text[..zeros + 1].fill(b' ');
+    let mut text = [
+        b' ', b' ', b' ', b' ', b' ', b' ', b' ', b' ', b' ', b'.', i, j, k, l,
+    ];
+    // Digits put into blanks: to fill blanks over digits would be a call of memset, which the archive for C would then need from outside.
+    text[zeros + 1..9].copy_from_slice(&whole[zeros..]);
     if tenthousandths < 0 {
         text[zeros] = b'-';
     }

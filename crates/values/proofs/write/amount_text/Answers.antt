@@ -1,4 +1,4 @@
-use Rattle.std.proofs.Common.{◌≡◌, ◌/◌, ◌%◌, ◌^◌, ◌<◌, nat_abs, ltb, ap, ◌∙◌, arith, w64, SFits, rules}
+use Rattle.std.proofs.Common.{◌≡◌, ◌-◌, ◌/◌, ◌%◌, ◌^◌, ◌<◌, nat_abs, ltb, take, drop, ap, ◌∙◌, arith, w64, SFits, rules}
 use Rattle.std.proofs.lemmas.Int.{ints, to_z-of_z}
 use Rattle.std.proofs.lemmas.Bool.{and_parts, ltb-true}
 use Rattle.values.proofs.Columns.{columns_are, front_zeros, unsigned, signed, below_zero, from_zero}
@@ -10,9 +10,10 @@ returns-then-tenthousandths-lt0 c =
     let fits : SFits w64 z = search rules in
     let same = to_z-of_z w64 z fits in
     let size = c.unsigned_abs-size.result in
+    let zeros = c.zeros_at_front-zeros.result in
     let is : size ≡ nat_abs z = c.unsigned_abs-size.ensures.value ∙ ap nat_abs same in
     let small : nat_abs z < 10 ^ 12 = ltb-true _ _ (and_parts (ltb (nat_abs z) (10 ^ 12)) _ c.args.amount.ok).0 in
-    signed size c.zeros_at_front-zeros.result (omega arith) (c.zeros_at_front-zeros.ensures.value ∙ front_zeros _ (size / 10000) c.digits-whole.ensures) _ _ (c.fill.ensures.after (λ y e. e)) (columns_are _ _ (size / 10000) (size % 10000) c.digits-whole.ensures c.digits.ensures)
+    signed size zeros (omega arith) (c.zeros_at_front-zeros.ensures.value ∙ front_zeros _ (size / 10000) c.digits-whole.ensures) _ _ (c.copy_from_slice.ensures.after ∙ ap (λ l. take (8 - zeros) (drop zeros l)) c.digits-whole.ensures) (columns_are _ (size % 10000) c.digits.ensures)
     ∙ below_zero z size is (omega (arith, ints))
 
 pub returns-else-tenthousandths-lt0 : goal.returns-else-tenthousandths-lt0
@@ -21,7 +22,8 @@ returns-else-tenthousandths-lt0 c =
     let fits : SFits w64 z = search rules in
     let same = to_z-of_z w64 z fits in
     let size = c.unsigned_abs-size.result in
+    let zeros = c.zeros_at_front-zeros.result in
     let is : size ≡ nat_abs z = c.unsigned_abs-size.ensures.value ∙ ap nat_abs same in
     let small : nat_abs z < 10 ^ 12 = ltb-true _ _ (and_parts (ltb (nat_abs z) (10 ^ 12)) _ c.args.amount.ok).0 in
-    unsigned size c.zeros_at_front-zeros.result (omega arith) (c.zeros_at_front-zeros.ensures.value ∙ front_zeros _ (size / 10000) c.digits-whole.ensures) _ _ (c.fill.ensures.after (λ y e. e)) (columns_are _ _ (size / 10000) (size % 10000) c.digits-whole.ensures c.digits.ensures)
+    unsigned size zeros (omega arith) (c.zeros_at_front-zeros.ensures.value ∙ front_zeros _ (size / 10000) c.digits-whole.ensures) _ _ (c.copy_from_slice.ensures.after ∙ ap (λ l. take (8 - zeros) (drop zeros l)) c.digits-whole.ensures) (columns_are _ (size % 10000) c.digits.ensures)
     ∙ from_zero z size is (omega (arith, ints))
