@@ -7,10 +7,11 @@
 // where it is not 0. In a text `{HH}` is the byte with that number in hexadecimal digits, `{HH*N}` is
 // N such bytes, and `{.}` takes away the line feed of its line. Lines before the first case of a list
 // say what it is about.
-ghost use Rattle.std.specs.Prelude.{◌≡◌, vec_len, IfOk};
-ghost use Rattle.cases.specs.Lists.{count_of_cases};
+ghost use Rattle.std.specs.Prelude.{◌≡◌, ◌+◌, vec_len, is_some, IfOk, MatchOption, OnErr};
+ghost use Rattle.cases.specs.Lists.{begins_case, cases_ahead, count_of_cases};
 
 use std::alloc::{AllocError, Global};
+use std::str::Lines;
 
 #[derive(Drop)]
 pub struct Case {
@@ -25,17 +26,63 @@ pub struct Case {
     pub outcome: Option<Vec<String>>,
 }
 
+// What the first line of a case says, where this line begins one.
+fn head_of(line: &str) -> Option<&str>
+    ensures { is_some result ≡ begins_case line.now }
+{
+    line.strip_prefix("=== ")
+}
+
+// The cases of a list, read one after the other: the head of the next one, and the lines behind it.
+#[derive(Drop)]
+pub struct Cases<'a> {
+    head: Option<&'a str>,
+    lines: Lines<'a>,
+}
+
+impl<'a> Cases<'a> {
+    // Passes over the lines before the first case.
+    pub fn new(list: &'a str) -> Cases<'a>
+        ensures { cases_ahead result ≡ count_of_cases list.now }
+    {
+        let mut lines = list.lines();
+        while let Some(line) = lines.next() {
+            let head = head_of(line);
+            if head.is_some() {
+                return Cases { head, lines };
+            }
+        }
+        Cases { head: None, lines }
+    }
+
+    // The next case, and none at the list's end. No case comes behind one for which memory ran out.
+    pub fn next_case(&mut self, heap: Global) -> Result<Option<Case>, AllocError>
+        ensures given { IfOk result (λ found. MatchOption found ((cases_ahead self.old ≡ 0) × (cases_ahead self.new ≡ 0)) (λ _. cases_ahead self.old ≡ cases_ahead self.new + 1)) }
+        ensures ended { OnErr result (cases_ahead self.new ≡ 0) }
+    {
+        let Some(head) = self.head.take() else {
+            return Ok(None);
+        };
+        let mut case = begun(heap, head)?;
+        while let Some(line) = self.lines.next() {
+            self.head = head_of(line);
+            if self.head.is_some() {
+                return Ok(Some(case));
+            }
+            case.put_line(heap, line)?;
+        }
+        Ok(Some(case))
+    }
+}
+
 // The cases of a list, in their order.
 pub fn read_list(heap: Global, list: &str) -> Result<Vec<Case>, AllocError>
     ensures { IfOk result (λ cases. vec_len cases ≡ count_of_cases list.now) }
 {
     let mut cases = Vec::new(heap);
-    for line in list.lines() {
-        if let Some(head) = line.strip_prefix("=== ") {
-            cases.push(begun(heap, head)?)?;
-        } else if let Some(case) = cases.last_mut() {
-            case.put_line(heap, line)?;
-        }
+    let mut ahead = Cases::new(list);
+    while let Some(case) = ahead.next_case(heap)? {
+        cases.push(case)?;
     }
     Ok(cases)
 }
@@ -124,6 +171,25 @@ fault 10 at 16
         assert!(rt; first.outcome.is_some());
         assert_eq!(rt; cases[1].name.as_str(), "second");
         assert!(rt; cases[1].outcome.is_none());
+        Ok(())
+    }
+
+    #[test]
+    fn gives_a_case_at_a_time(rt: HostRuntime) -> Result<(), AllocError> {
+        let mut cases = Cases::new(LIST);
+        let first = cases.next_case(rt.alloc())?;
+        assert!(rt; first.is_some());
+        if let Some(case) = &first {
+            assert_eq!(rt; case.name.as_str(), "first");
+            assert_eq!(rt; case.text.as_slice(), b".A KLMO3 0310 Z HG 2".as_slice());
+        }
+        let second = cases.next_case(rt.alloc())?;
+        assert!(rt; second.is_some());
+        if let Some(case) = &second {
+            assert_eq!(rt; case.name.as_str(), "second");
+            assert_eq!(rt; case.room, 1);
+        }
+        assert!(rt; cases.next_case(rt.alloc())?.is_none());
         Ok(())
     }
 }

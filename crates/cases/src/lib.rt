@@ -13,7 +13,7 @@ mod values;
 mod worked;
 
 pub use damage::{Harm, damaged, harm_at};
-pub use form::{Case, read_list};
+pub use form::{Case, Cases, read_list};
 
 // The lists of cases, each in the form that `read_list` reads: the worked examples of the rules, and
 // messages as river offices send them.

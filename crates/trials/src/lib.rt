@@ -6,7 +6,7 @@ ghost use Rattle.cases.specs.Lists.{count_of_cases};
 ghost use Rattle.cases.specs.declared.form.Case.{Case};
 ghost use Rattle.second.specs.declared.messages.Outcome.{Outcome};
 
-use cases::Case;
+use cases::{Case, Cases};
 use reporting::{Detail, Tally, is_as_told, show_case, show_difference, show_tally};
 use second::{Day, Outcome};
 use std::alloc::{AllocError, Global};
@@ -117,16 +117,18 @@ pub fn try_list<P: Peer>(
     let trials = Trials { rt, peer, detail };
     let mut whole = Tally::default();
     let mut harmed = Tally::default();
-    let cases = cases::read_list(rt.alloc(), list)?;
-    // A place and no zip with the cases behind, which would drop the last case.
-    for (i, case) in cases.iter().enumerate() {
-        let behind: &[u8] = match cases.get(i.saturating_add(1)) {
+    let mut cases = Cases::new(list);
+    let mut ahead = cases.next_case(rt.alloc())?;
+    while let Some(case) = ahead {
+        ahead = cases.next_case(rt.alloc())?;
+        // Behind the last case stands no text.
+        let behind: &[u8] = match &ahead {
             Some(next) => next.text.as_slice(),
             None => &[],
         };
-        whole = whole + trials.try_case(case)?;
-        harmed = harmed + trials.try_joined(case, behind)?;
-        harmed = harmed + trials.try_damaged(case)?;
+        whole = whole + trials.try_case(&case)?;
+        harmed = harmed + trials.try_joined(&case, behind)?;
+        harmed = harmed + trials.try_damaged(&case)?;
     }
     show_tally(rt, "texts", whole)?;
     show_tally(rt, "joined and damaged texts", harmed)?;

@@ -1,0 +1,2 @@
+mod Taken
+pub mod Counts
